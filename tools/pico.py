@@ -1,7 +1,8 @@
 """`./pico`: runs the program pico, the proved one where it is there, else one that is built first with nothing proved.
 
 What the program writes and its exit status stay as they are. Besides it takes a file in the place of standard input,
-answers --help and --version, and says on standard error what was wrong with what the program refused.
+answers --help and --version, and says on standard error what was wrong with what the program refused: what is said is
+that of a program of its own, `pico_explain`.
 
 Exit status: the program's own (0 to 7, see README.md), or 70 where there is no program to run.
 """
@@ -21,7 +22,7 @@ TOP = os.path.dirname(TOOLS)
 sys.path.insert(0, TOOLS)
 
 import programs  # noqa: E402
-from explain.words import READS, fault_of, with_file, words_of  # noqa: E402
+from given import READS, is_in_order, mode_of, with_file  # noqa: E402
 
 BAD_SCRIPT, USAGE, READ_FAULT, NOT_LEGAL, NO_PROGRAM = 1, 2, 4, 7, 70
 # the script ./pico hands standard input on by this number
@@ -129,23 +130,24 @@ def run(words: list[str], source: int) -> int:
 
 def explain(program: str, words: list[str], given: Input, status: int) -> None:
     """Says on standard error why the program refused what it was given. It answers the same bytes alike, so it is asked
-    once more for the line that it wrote."""
-    from explain.finding import text_of
-    from explain.refused import explain as explain_bytes
-    from explain.words import explain_words
+    once more for the line that it wrote. Where there is no program that explains, nothing is said."""
+    if status != USAGE and not given.is_kept:
+        return
+    try:
+        explainer = programs.Programs(TOP, programs.EXPLAIN).to_run()
+    except (programs.Failure, OSError):
+        return
+    data = b"" if status == USAGE else given.again()
+    how = {"input": data, "stdout": subprocess.PIPE, "stderr": subprocess.DEVNULL}
+    asked = [it for it in words if it != "--steps" or status == USAGE]
+    line = subprocess.run([program, *asked], **how).stdout.partition(b"\n")[0]
+    told = subprocess.run([explainer, line, *map(as_text, words)], **how)
+    programs.tell(told.stdout.decode("ascii", "replace"))
 
-    if status == USAGE:
-        finding = explain_words(words)
-    elif given.is_kept:
-        data = given.again()
-        asked = [it for it in words if it != "--steps"]
-        answer = subprocess.run([program, *asked], input=data, stdout=subprocess.PIPE, stderr=subprocess.DEVNULL)
-        line = answer.stdout.decode("utf-8", "replace").partition("\n")[0]
-        finding = explain_bytes(data, line, words_of(words).mode == "check")
-    else:
-        finding = None
-    if finding:
-        programs.tell(text_of(finding))
+
+def as_text(word: str) -> str:
+    """A word with each byte that is no text spelled."""
+    return word.encode("utf-8", "surrogateescape").decode("utf-8", "backslashreplace")
 
 
 def hold_what_is_closed() -> None:
@@ -168,7 +170,7 @@ def main(words: list[str]) -> int:
     try:
         here = programs.Programs(TOP)
         if words == ["--prove"]:
-            here.prove()
+            programs.prove_all(TOP)
             return 0
         program = here.to_run()
     except programs.Failure as why:
@@ -182,10 +184,10 @@ def main(words: list[str]) -> int:
 
 def run_program(program: str, given: list[str]) -> int:
     words, file = with_file(given)
-    if file is not None and (not os.path.exists(file) or fault_of(words)):
+    if file is not None and not (os.path.exists(file) and is_in_order(words)):
         # no file, so a word too many
         words, file = given, None
-    mode = words_of(words).mode
+    mode = mode_of(words)
     source = Input(READS.get(mode, 0))
     if file is not None:
         try:
@@ -193,7 +195,7 @@ def run_program(program: str, given: list[str]) -> int:
         except OSError as error:
             programs.say(f"{file} can't be read: {error.strerror}")
             return READ_FAULT
-    elif mode in READS and fault_of(words) is None:
+    elif mode in READS and is_in_order(words):
         source.take()
     status = run([program, *words], source.source)
     if status in (BAD_SCRIPT, USAGE, NOT_LEGAL):

@@ -1,10 +1,11 @@
 #!/usr/bin/env python3
-"""The programs that `./pico` runs, each kept beside what its sources were when its build began.
+"""The programs that `./pico` runs, each kept beside what its sources were when its build began: `pico`, and the one
+that says why `pico` refused what it was given.
 
-A proved program and an unproved one are kept in folders of out/pico. One of them is run only where the sources are the
-very files that it was built of, none changed, gone or new: by their sizes and times, and where these differ by their
-contents. A build is made aside. It takes its place only where it succeeded and no source was touched meanwhile, so a
-build that fails leaves nothing that could be run in the place of what it failed to make.
+Of each a proved program and an unproved one are kept in folders of out/pico and out/pico_explain. One of them is run
+only where the sources are the very files that it was built of, none changed, gone or new: by their sizes and times, and
+where these differ by their contents. A build is made aside. It takes its place only where it succeeded and no source
+was touched meanwhile, so a build that fails leaves nothing that could be run in the place of what it failed to make.
 """
 from __future__ import annotations
 
@@ -21,7 +22,11 @@ import time
 
 # what of a crate its program is made of
 PARTS = ("src", "specs", "proofs")
-CRATE = "pico_cmd"
+# the crates of the two programs; the variables that name another program; and the words of the run behind a proof
+PICO, EXPLAIN = "pico_cmd", "pico_explain"
+FOLDERS = {PICO: "pico", EXPLAIN: "pico_explain"}
+VARIABLES = {PICO: "PICO", EXPLAIN: "PICO_EXPLAIN"}
+TRIED = {PICO: (["sim"], "examples/hello.pico"), EXPLAIN: ([], None)}
 # how often a build is begun again where a source is touched while it goes on
 BUILDS = 3
 # the lines of a build's log that are shown where it fails
@@ -38,13 +43,25 @@ def tell(text: str) -> None:
         os.write(2, text.encode("utf-8", "replace"))
 
 
+def prove_all(top: str) -> None:
+    """Proves both programs and all that they stand on, builds them, and keeps them."""
+    both = [Programs(top, crate) for crate in FOLDERS]
+    if all(it.proved_of(it.sources()) for it in both):
+        say("the program is proved already")
+        return
+    began = time.monotonic()
+    for it in both:
+        it.prove()
+    say(f"proved and built in {so_long(time.monotonic() - began)}; from now on it is this program that runs")
+
+
 def say(line: str) -> None:
     tell(f"pico: {line}\n")
 
 
-def crates_below(top: str) -> list[str]:
-    """The repository's crates that the program stands on, each after those that it uses, and its own last: as rt builds
-    them."""
+def crates_below(top: str, crate: str) -> list[str]:
+    """The repository's crates that a program's crate stands on, each after those that it uses, and its own last: as rt
+    builds them."""
     uses, found = {}, []
     with open(f"{top}/crates.txt", encoding="utf-8") as lines:
         for line in lines:
@@ -52,13 +69,13 @@ def crates_below(top: str) -> list[str]:
             if colon and head.split():
                 uses[head.split()[0]] = below.split()
 
-    def visit(crate):
-        if crate in uses and crate not in found:
-            for below in uses[crate]:
+    def visit(name):
+        if name in uses and name not in found:
+            for below in uses[name]:
                 visit(below)
-            found.append(crate)
+            found.append(name)
 
-    visit(CRATE)
+    visit(crate)
     return found
 
 
@@ -72,16 +89,16 @@ def walk(folder: str):
                 yield entry
 
 
-def sources(top: str) -> dict[str, list[int]]:
-    """The files that the program is made of, each with its size and the times of its last change and last touch."""
+def sources(top: str, crate: str = PICO) -> dict[str, list[int]]:
+    """The files that a program is made of, each with its size and the times of its last change and last touch."""
     found = {}
     for name in ("crates.txt", "HANDLES"):
         with contextlib.suppress(FileNotFoundError):
             at = os.stat(f"{top}/{name}")
             found[name] = [at.st_size, at.st_mtime_ns, at.st_ctime_ns]
-    for crate in crates_below(top):
+    for name in crates_below(top, crate):
         for part in PARTS:
-            for entry in walk(f"{top}/crates/{crate}/{part}"):
+            for entry in walk(f"{top}/crates/{name}/{part}"):
                 at = entry.stat()
                 found[entry.path[len(top) + 1 :]] = [at.st_size, at.st_mtime_ns, at.st_ctime_ns]
     return found
@@ -107,8 +124,8 @@ def kit() -> str:
 class Kept:
     """A folder that keeps one program, and the record of what it was made of."""
 
-    def __init__(self, top: str, name: str) -> None:
-        self.top, self.folder = top, f"{top}/out/pico/{name}"
+    def __init__(self, top: str, folder: str) -> None:
+        self.top, self.folder = top, f"{top}/out/{folder}"
 
     def record(self) -> dict | None:
         """The record, where it stands there whole with its program."""
@@ -225,27 +242,37 @@ def refuse(what: str, log: str, top: str) -> None:
 
 
 class Programs:
-    """The programs of one checkout."""
+    """One of the two programs of one checkout, proved and not."""
 
-    def __init__(self, top: str) -> None:
-        self.top = top
-        self.proved, self.unproved = Kept(top, "proved"), Kept(top, "unproved")
-        self.log, self.failed = f"{top}/out/pico/proof.log", f"{top}/out/pico/failed.json"
+    def __init__(self, top: str, crate: str = PICO) -> None:
+        self.top, self.crate, folder = top, crate, FOLDERS[crate]
+        self.proved, self.unproved = Kept(top, f"{folder}/proved"), Kept(top, f"{folder}/unproved")
+        self.log, self.failed = f"{top}/out/{folder}/proof.log", f"{top}/out/{folder}/failed.json"
+
+    def sources(self) -> dict[str, list[int]]:
+        return sources(self.top, self.crate)
+
+    def named(self) -> str | None:
+        """The program that its variable names."""
+        variable = VARIABLES[self.crate]
+        name = os.environ.get(variable)
+        if name and not os.access(name, os.X_OK):
+            raise Failure(f"{variable} names {name}, and that is no program")
+        return os.path.abspath(name) if name else None
 
     def to_run(self) -> str:
-        """The program to run: the one that PICO names, or the proved one of these sources, or else the unproved one,
-        which is built first where it isn't there; then a line says that it isn't proved."""
-        named = os.environ.get("PICO")
+        """The program to run: the one that is named, or the proved one of these sources, or else the unproved one,
+        which is built first where it isn't there; then a line says that `pico` isn't proved."""
+        named = self.named()
         if named:
-            if not os.access(named, os.X_OK):
-                raise Failure(f"PICO names {named}, and that is no program")
-            return os.path.abspath(named)
-        files = sources(self.top)
+            return named
+        files = self.sources()
         proved = self.proved_of(files)
         if proved:
             return proved
         unproved = self.unproved.program(files) or self.build(self.unproved, self.make_unproved)
-        say(self.not_proved(files))
+        if self.crate == PICO:
+            say(self.not_proved(files))
         return unproved
 
     def not_proved(self, files: dict[str, list[int]]) -> str:
@@ -256,15 +283,12 @@ class Programs:
         return f"nothing is proved {where} yet: ./pico --prove proves this program and all that it stands on"
 
     def proved_or_fail(self) -> str:
-        """The program that PICO names, or the proved one of these sources."""
-        if os.environ.get("PICO"):
-            return self.to_run()
-        proved = self.proved_of(sources(self.top))
-        if not proved:
-            raise Failure(
-                "there is no proved program of these sources: ./pico --prove makes it, and PICO= names another"
-            )
-        return proved
+        """The program that is named, or the proved one of these sources."""
+        program = self.named() or self.proved_of(self.sources())
+        if not program:
+            other = f"{VARIABLES[self.crate]}= names another"
+            raise Failure(f"there is no proved program of these sources: ./pico --prove makes it, and {other}")
+        return program
 
     def proved_of(self, files: dict[str, list[int]]) -> str | None:
         """The proved program of these files: the one that is kept, or else the one that `rt ci` left."""
@@ -272,7 +296,11 @@ class Programs:
         if kept or not self.gate_made(files):
             return kept
         with in_turn(self.proved.folder):
-            return self.proved.keep(f"{self.top}/crates/{CRATE}/out/{CRATE}", files, sum_of(self.top, files))
+            return self.proved.keep(self.made(), files, sum_of(self.top, files))
+
+    def made(self) -> str:
+        """Where `rt` leaves the program."""
+        return f"{self.top}/crates/{self.crate}/out/{self.crate}"
 
     def gate_made(self, files: dict[str, list[int]]) -> bool:
         """Whether `rt ci` left a program, and it is of these files.
@@ -281,14 +309,14 @@ class Programs:
         program as both compilers built it, with no stamp beside it. So the program is of these files where each of
         them, and each folder of theirs, was last touched before the run began and before its crate's out/ was made.
         """
-        made = f"{self.top}/crates/{CRATE}/out/{CRATE}"
+        made = self.made()
         if not all(os.path.isfile(it) for it in (made, f"{made}.by-rattle")) or os.path.exists(f"{made}.stamp"):
             return False
         try:
             with open(f"{self.top}/.git/rt-ci.lock", "rb") as lock:
                 fcntl.flock(lock, fcntl.LOCK_EX | fcntl.LOCK_NB)
                 began = os.fstat(lock.fileno()).st_mtime_ns
-            for crate in crates_below(self.top):
+            for crate in crates_below(self.top, self.crate):
                 folder = f"{self.top}/crates/{crate}"
                 first = min(began, os.stat(folder).st_mtime_ns)
                 if any(touched >= first for part in PARTS for touched in folders_touched(f"{folder}/{part}")):
@@ -301,13 +329,8 @@ class Programs:
 
     def prove(self) -> None:
         """Proves the program and all that it stands on, builds it, and keeps it."""
-        files = sources(self.top)
-        if self.proved_of(files):
-            say("the program is proved already")
-            return
-        began = time.monotonic()
-        self.build(self.proved, self.make_proved)
-        say(f"proved and built in {so_long(time.monotonic() - began)}; from now on it is this program that runs")
+        if not self.proved_of(self.sources()):
+            self.build(self.proved, self.make_proved)
 
     def build(self, kept: Kept, make) -> str:
         """Builds a program by `make` and keeps it; anew where a source was touched meanwhile."""
@@ -315,36 +338,38 @@ class Programs:
             raise Failure("there is no rt on the path: README.md says what a build needs")
         with in_turn(kept.folder):
             for _ in range(BUILDS):
-                files = sources(self.top)
+                files = self.sources()
                 there = kept.program(files)
                 if there:
                     return there
                 of = sum_of(self.top, files)
                 made = make(files)
-                if sources(self.top) == files:
+                if self.sources() == files:
                     return kept.keep(made, files, of)
                 say("a source was touched while the program was built: it is built once more")
         raise Failure(f"a source was touched in each of {BUILDS} builds, so the program was not built")
 
     def make_unproved(self, files: dict[str, list[int]]) -> str:
-        log, made = f"{self.top}/out/pico/unproved.log", f"{self.unproved.folder}/new"
-        words = [sys.executable, f"{self.top}/tools/unproved.py", made]
-        if run_build(words, self.top, log, lambda: "building the program, once, with nothing proved") != 0:
-            refuse("the program was not built", log, self.top)
+        log, made = f"{os.path.dirname(self.log)}/unproved.log", f"{self.unproved.folder}/new"
+        words = [sys.executable, f"{self.top}/tools/unproved.py", made, self.crate]
+        what = "the program" if self.crate == PICO else "what explains refusals"
+        if run_build(words, self.top, log, lambda: f"building {what}, once, with nothing proved") != 0:
+            refuse(f"{what} was not built", log, self.top)
         return made
 
     def make_proved(self, files: dict[str, list[int]]) -> str:
-        crates = crates_below(self.top)
-        # once it is built it runs this script; a status 0 comes from there alone
-        words, script = ["rt", "run", "--", "sim"], f"{self.top}/examples/hello.pico"
+        crates = crates_below(self.top, self.crate)
+        # once it is built it runs on this; a status 0 comes from there alone
+        words, given = TRIED[self.crate]
+        given = f"{self.top}/{given}" if given else os.devnull
         at = lambda: "proving {}, crate {} of {}".format(*self.at_work(crates))
         with contextlib.suppress(FileNotFoundError):
             os.remove(self.failed)
-        if run_build(words, f"{self.top}/crates/{CRATE}", self.log, at, script) != 0:
+        if run_build(["rt", "run", "--", *words], f"{self.top}/crates/{self.crate}", self.log, at, given) != 0:
             with open(self.failed, "w", encoding="utf-8") as file:
                 json.dump(files, file)
             refuse("the program was not proved", self.log, self.top)
-        return f"{self.top}/crates/{CRATE}/out/{CRATE}"
+        return self.made()
 
     def at_work(self, crates: list[str]) -> tuple[str, int, int]:
         """The crate that is being proved: the first, in the order in which rt builds them, with no whole library."""
@@ -368,10 +393,13 @@ def folders_touched(folder: str):
 
 
 def main(words: list[str]) -> int:
-    """Prints the path of the program that `./pico` runs; with --proved of the proved one, or else of PICO's."""
-    here = Programs(os.path.dirname(os.path.dirname(os.path.realpath(__file__))))
+    """Prints the path of the program that `./pico` runs, or where its crate is named of the one that explains refusals;
+    with --proved in front of the proved one, or else of the one that is named."""
+    is_proved = words[:1] == ["--proved"]
+    crate = EXPLAIN if words[is_proved:] == [EXPLAIN] else PICO
+    here = Programs(os.path.dirname(os.path.dirname(os.path.realpath(__file__))), crate)
     try:
-        print(here.proved_or_fail() if words == ["--proved"] else here.to_run())
+        print(here.proved_or_fail() if is_proved else here.to_run())
     except Failure as why:
         say(str(why))
         return 70

@@ -1,11 +1,12 @@
 #!/usr/bin/env python3
-"""Builds `pico` with nothing proved: for a first run of `./pico`, and to count and time what a change would cost.
+"""Builds a program with nothing proved: for a first run of `./pico`, and to count and time what a change would cost.
 
-usage: tools/unproved.py OUT [PART=HINT ..]
+usage: tools/unproved.py OUT [CRATE] [PART=HINT ..]
 
 `rt try` compiles the program with checks. Here the intermediate code that it would compile is kept, its checks are
 taken out, the sources' hints on inlining are put in, and it is optimized as `rt run` optimizes a proved program: OUT
-has the instructions of that one within some hundredths. Further hints are tried without a change of the sources: PART is a
+has the instructions of that one within some hundredths. CRATE is the program's, `pico_cmd` where none is named. Further
+hints are tried without a change of the sources: PART is a
 pattern of a function's name in the intermediate code, as `world_core::state::State::run$`, and HINT one of `always`,
 `never` and `cold`. It takes two minutes of a processor.
 """
@@ -66,7 +67,7 @@ def kit_that_keeps(real: pathlib.Path, kept: pathlib.Path, made: pathlib.Path) -
     compiler = made / "toolchain/bin/clang"
     compiler.write_text(
         f"""#!/bin/bash
-if [ "$(stat -c %s module.bc 2>/dev/null || echo 0)" -gt 1000000 ]; then cp module.bc {kept}; exit 1; fi
+if [ "$(stat -c %s module.bc 2>/dev/null || echo 0)" -gt 200000 ]; then cp module.bc {kept}; exit 1; fi
 exec -a "$(basename "$0")" {real}/toolchain/bin/clang "$@"
 """
     )
@@ -137,12 +138,15 @@ def without_checks(text: pathlib.Path, hints: dict, tried: list) -> str:
 
 
 def main() -> int:
-    if len(sys.argv) < 2 or not all(it.rpartition("=")[2] in WORDS for it in sys.argv[2:]):
+    crate, hinted = "pico_cmd", sys.argv[2:]
+    if hinted and "=" not in hinted[0]:
+        crate, hinted = hinted[0], hinted[1:]
+    if len(sys.argv) < 2 or not all(it.rpartition("=")[2] in WORDS for it in hinted):
         print(__doc__.strip())
         return 2
     # so that what is written aside goes, too, where this run is told to stop
     signal.signal(signal.SIGTERM, lambda *_: sys.exit(143))
-    tried = [(re.compile(it.rpartition("=")[0]), WORDS[it.rpartition("=")[2]]) for it in sys.argv[2:]]
+    tried = [(re.compile(it.rpartition("=")[0]), WORDS[it.rpartition("=")[2]]) for it in hinted]
     real, out = kit(), pathlib.Path(sys.argv[1]).resolve()
     with tempfile.TemporaryDirectory() as room:
         room = pathlib.Path(room)
@@ -150,7 +154,7 @@ def main() -> int:
         kit_that_keeps(real, kept, room / "kit")
         tries = [room / "kit/bin/rt", "try", "--", "sim"]
         how = {"stdin": subprocess.DEVNULL, "stdout": subprocess.PIPE, "stderr": subprocess.STDOUT}
-        tried_it = subprocess.run(tries, cwd=TOP / "crates/pico_cmd", **how)
+        tried_it = subprocess.run(tries, cwd=TOP / "crates" / crate, **how)
         if not kept.is_file():
             said = [
                 it for it in tried_it.stdout.decode(errors="replace").split("\n") if it and not it.startswith("run=")

@@ -10,10 +10,10 @@ from __future__ import annotations
 import re
 from dataclasses import dataclass, field
 
-from explain.script import words_in
-
 NOT_READY = ("ENOMSG", "EAGAIN")
 ERROR = re.compile(r"E[A-Z0-9]+")
+# a word from its quote to the next one and to the next blank, or from another byte to the next blank
+WORD = re.compile(r'"[^"]*(?:"[^ \t\r]*)?|[^ \t\r"][^ \t\r]*')
 EVENT = re.compile(r"(run|take) ([0-9]+)(?: from ([0-9]+))?")
 # the calls that the caller's own node carries out, whatever they are about
 OWN = ("getpid", "fork", "sigaction", "sigprocmask", "sigpending", "handled", "waitpid")
@@ -148,7 +148,7 @@ class Reader:
             self.picture.skipped += 1
 
     def read_entry(self, line: str) -> bool:
-        words = [word.text.decode() for word in words_in(line.encode())]
+        words = WORD.findall(line)
         if not words or not words[0].isdigit() or "=" not in words or "by" not in words:
             return False
         sign, by = words.index("="), len(words) - 1 - words[::-1].index("by")

@@ -1,0 +1,83 @@
+//! A line of a trace, cut at its signs.
+
+use explain_base::{Span, Word, Words};
+
+/// A line of a trace: the process, the words of the call, and those of the reply.
+#[derive(Clone, Copy)]
+pub struct Entry<'a> {
+    pub pid: &'a [u8],
+    pub call: Words<'a>,
+    pub reply: Words<'a>,
+}
+
+/// The text of the word at that place; nothing where none is there.
+pub fn text_at(words: Words<'_>, place: usize) -> &[u8] {
+    match words.get(place) {
+        Some(word) => word.text,
+        None => &[],
+    }
+}
+
+/// Whether so many words are there.
+pub fn are(words: Words, count: usize) -> bool {
+    words.count() == count
+}
+
+/// The words of a line before one of its words.
+pub fn before<'a>(line: &'a [u8], word: Word<'a>) -> Words<'a> {
+    Words::of(line.get(..word.start).unwrap_or(line))
+}
+
+/// The place of the word `=` behind the first word, and that word.
+pub fn sign_in(line: &[u8]) -> Option<(usize, Word<'_>)> {
+    for (place, word) in Words::of(line).enumerate() {
+        if place > 0 && word.text == b"=".as_slice() {
+            return Some((place, word));
+        }
+    }
+    None
+}
+
+/// The last word but one and the last.
+pub fn last_two(line: &[u8]) -> Option<(Word<'_>, Word<'_>)> {
+    let mut last = None;
+    let mut before = None;
+    for word in Words::of(line) {
+        before = last;
+        last = Some(word);
+    }
+    match (before, last) {
+        (Some(before), Some(last)) => Some((before, last)),
+        _ => None,
+    }
+}
+
+/// The entry of a line, where it has the shape of one.
+pub fn entry_of(line: &[u8]) -> Option<Entry<'_>> {
+    let words = Words::of(line);
+    let first = words.get(0)?;
+    let (place, sign) = sign_in(line)?;
+    let (by, _) = last_two(line)?;
+    if by.text != b"by".as_slice() || words.get(4).is_none() {
+        return None;
+    }
+    let pid = first.text;
+    let call = before(line, sign).behind(1);
+    let reply = before(line, by).behind(place.saturating_add(1));
+    Some(Entry { pid, call, reply })
+}
+
+/// The bytes from the first word to the last.
+pub fn span_of(words: Words) -> Option<Span> {
+    let first = words.get(0)?;
+    let last = words.last()?;
+    Some(Span::of(first.start, last.end()))
+}
+
+/// Those bytes of a line.
+pub fn text_of_words<'a>(line: &'a [u8], words: Words<'a>) -> &'a [u8] {
+    match span_of(words) {
+        Some(span) => line.get(span.start..span.end).unwrap_or(&[]),
+        None => &[],
+    }
+}

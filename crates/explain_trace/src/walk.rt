@@ -1,0 +1,244 @@
+//! Where each process of a trace is in its block of the script, as far as the trace's lines tell it. This doesn't know
+//! of signals: a process that a signal dooms makes fewer calls than its block has. So what is found here is a hint,
+//! which is told only where it agrees with what the program says is due.
+
+use crate::entry::{Entry, are, entry_of, text_at};
+use explain_base::{Line, Lines, Words};
+use explain_calls::Call;
+use std::alloc::{AllocError, Global};
+
+// The most processes of a script. More that a trace may name aren't followed.
+const MAX_PROCESSES: usize = 32;
+
+// A call of a block: its line, and how often it is made at most.
+#[derive(Clone, Copy)]
+struct Due<'a> {
+    line: Line<'a>,
+    count: usize,
+}
+
+// Where the calls of a block begin.
+#[derive(Clone, Copy)]
+struct Begin<'a> {
+    name: &'a [u8],
+    place: usize,
+}
+
+// The calls of all blocks, with nothing behind each block's last.
+#[derive(Drop)]
+struct Calls<'a> {
+    begins: Vec<Begin<'a>>,
+    calls: Vec<Option<Due<'a>>>,
+}
+
+/// A process in its block: which call is due, how often it was made, and the line of the trace at which it ended.
+#[derive(Clone, Copy)]
+pub struct Process<'a> {
+    pub pid: &'a [u8],
+    due: usize,
+    made: usize,
+    pub ended: Option<Line<'a>>,
+}
+
+/// The processes behind some lines of a trace.
+#[derive(Drop)]
+pub struct Walk<'a> {
+    calls: Calls<'a>,
+    processes: Vec<Process<'a>>,
+}
+
+impl<'a> Calls<'a> {
+    // The calls of a script's blocks. The line `end` stands for the `exit` that is implied there.
+    fn of(alloc: Global, script: &'a [u8]) -> Result<Self, AllocError> {
+        let mut begins: Vec<Begin<'a>> = Vec::new(alloc);
+        let mut calls: Vec<Option<Due<'a>>> = Vec::new(alloc);
+        let mut has_exit = false;
+        for line in Lines::of(script) {
+            let words = Words::of(line.text);
+            match text_at(words, 0) {
+                b"proc" => {
+                    calls.push(None)?;
+                    let name = text_at(words, 1);
+                    let place = calls.len();
+                    begins.push(Begin { name, place })?;
+                    has_exit = false;
+                }
+                b"end" => {
+                    if !has_exit {
+                        let count = 1;
+                        calls.push(Some(Due { line, count }))?;
+                    }
+                }
+                [] | [b'#', ..] => {}
+                _ => {
+                    let call = Call::of(words);
+                    has_exit = call.name() == b"exit".as_slice();
+                    let count = call.count();
+                    calls.push(Some(Due { line, count }))?;
+                }
+            }
+        }
+        calls.push(None)?;
+        Ok(Calls { begins, calls })
+    }
+
+    // The place of the first call of a block.
+    fn begin_of(&self, name: &[u8]) -> usize {
+        for begin in &self.begins {
+            if begin.name == name {
+                return begin.place;
+            }
+        }
+        self.calls.len()
+    }
+
+    // The place of the first call of the first block.
+    fn begin(&self) -> usize {
+        match self.begins.first() {
+            Some(begin) => begin.place,
+            None => self.calls.len(),
+        }
+    }
+
+    fn due(&self, process: &Process<'a>) -> Option<Due<'a>> {
+        match self.calls.get(process.due) {
+            Some(due) => *due,
+            None => None,
+        }
+    }
+}
+
+// Whether a call that got this reply may be made again, by `try`.
+fn is_to_be_made_again(entry: Entry) -> bool {
+    let first = text_at(entry.reply, 0);
+    let is_waiting = text_at(entry.call, 0) == b"waitpid".as_slice() && are(entry.reply, 1);
+    matches!(first, b"ENOMSG" | b"EAGAIN" | b"ENOENT") || (is_waiting && first == b"0".as_slice())
+}
+
+// A process behind an entry of its own: the call is due again, or the next one is.
+fn behind<'a>(
+    process: &Process<'a>,
+    due: Option<Due<'a>>,
+    entry: Entry<'a>,
+    line: Line<'a>,
+) -> Process<'a> {
+    let made = process.made.saturating_add(1);
+    let (due, made) = match due {
+        Some(due) if is_to_be_made_again(entry) && made < due.count => (process.due, made),
+        Some(_) => (process.due.saturating_add(1), 0),
+        None => (process.due, process.made),
+    };
+    let pid = process.pid;
+    let ended = match text_at(entry.call, 0) {
+        b"exit" | b"killed" => Some(line),
+        _ => process.ended,
+    };
+    Process {
+        pid,
+        due,
+        made,
+        ended,
+    }
+}
+
+impl<'a> Walk<'a> {
+    /// The processes behind these lines of a trace, up to before that number.
+    pub fn along(
+        alloc: Global,
+        script: &'a [u8],
+        lines: Lines<'a>,
+        number: usize,
+    ) -> Result<Self, AllocError> {
+        let calls = Calls::of(alloc, script)?;
+        let mut processes: Vec<Process<'a>> = Vec::new(alloc);
+        let due = calls.begin();
+        processes.push(Process {
+            pid: b"1",
+            due,
+            made: 0,
+            ended: None,
+        })?;
+        let mut walk = Walk { calls, processes };
+        for line in lines {
+            if line.number >= number {
+                break;
+            }
+            if let Some(entry) = entry_of(line.text) {
+                walk.take(entry, line)?;
+            }
+        }
+        Ok(walk)
+    }
+
+    // Takes an entry of the trace, which stands in this line.
+    fn take(&mut self, entry: Entry<'a>, line: Line<'a>) -> Result<(), AllocError> {
+        let mut is_known = false;
+        for process in self.processes.iter_mut() {
+            if process.pid == entry.pid {
+                let due = self.calls.due(process);
+                *process = behind(process, due, entry, line);
+                is_known = true;
+            }
+        }
+        if is_known
+            && text_at(entry.call, 0) == b"fork".as_slice()
+            && are(entry.call, 2)
+            && are(entry.reply, 1)
+        {
+            self.fork(text_at(entry.reply, 0), text_at(entry.call, 1))?;
+        }
+        Ok(())
+    }
+
+    // A process of this number begins with the block of this name.
+    fn fork(&mut self, pid: &'a [u8], name: &'a [u8]) -> Result<(), AllocError> {
+        if self.process(pid).is_none() && self.processes.len() < MAX_PROCESSES {
+            let due = self.calls.begin_of(name);
+            self.processes.push(Process {
+                pid,
+                due,
+                made: 0,
+                ended: None,
+            })?;
+        }
+        Ok(())
+    }
+
+    /// The process of this number.
+    pub fn process(&self, pid: &[u8]) -> Option<Process<'a>> {
+        for process in &self.processes {
+            if process.pid == pid {
+                return Some(*process);
+            }
+        }
+        None
+    }
+
+    /// The line of the script whose call is due in a process; none behind its last.
+    pub fn line_due(&self, process: &Process<'a>) -> Option<Line<'a>> {
+        match self.calls.due(process) {
+            Some(due) => Some(due.line),
+            None => None,
+        }
+    }
+
+    /// The number of the first of the processes that haven't ended; 1 where all have.
+    pub fn first_living(&self) -> &'a [u8] {
+        let mut found: Option<&'a [u8]> = None;
+        for process in &self.processes {
+            let is_first = match found {
+                Some(pid) => is_below(process.pid, pid),
+                None => true,
+            };
+            if process.ended.is_none() && is_first {
+                found = Some(process.pid);
+            }
+        }
+        found.unwrap_or(b"1")
+    }
+}
+
+// Whether digits are a smaller number than others.
+fn is_below(digits: &[u8], others: &[u8]) -> bool {
+    digits.len() < others.len() || (digits.len() == others.len() && digits < others)
+}
