@@ -1,0 +1,10 @@
+pub mod Cuts
+pub mod Nodes
+pub mod Headings
+pub mod Scripts
+pub mod Through
+pub mod Sandboxes
+pub mod Given
+pub mod Texts
+pub mod Blocks
+pub mod Sounds
