@@ -1,0 +1,16 @@
+pub mod Places
+pub mod Falls
+pub mod Nodes
+pub mod Loops
+pub mod Rising
+pub mod Orders
+pub mod Decimals
+pub mod Spelled
+pub mod Listed
+pub mod Wholes
+pub mod Images
+pub mod Again
+pub mod Grouped
+pub mod Feeds
+pub mod Opened
+pub mod Frozen

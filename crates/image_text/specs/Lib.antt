@@ -1,0 +1,9 @@
+pub mod Image
+pub mod Parts
+pub mod Lines
+pub mod Order
+pub mod Reading
+pub mod Grammar
+pub mod Faults
+pub mod Gives
+pub mod Examples

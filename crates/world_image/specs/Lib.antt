@@ -1,0 +1,4 @@
+pub mod Thawing
+pub mod Thaws
+pub mod Examples
+pub mod Laws
