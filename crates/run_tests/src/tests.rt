@@ -1,9 +1,9 @@
 //! Runs under gates.
-ghost use Rattle.std.specs.Prelude.{IfOk, IsSome};
+ghost use Rattle.std.specs.Prelude.{IsSome};
 
 use crate::gates::{BothAtWork, Counts, FirstIsLate, InOrder, OtherLeaves, Words};
 use host_iface::Gate;
-use pico_base::Node;
+use pico_base::{Bytes, Node};
 use pico_run::{Rested, run};
 use script_reader::read_script;
 use std::alloc::Global;
@@ -26,32 +26,44 @@ const TRACE: &str = concat!(
     "totals entries 6 processes 2 notready 2 refused 0\n"
 );
 
-// Runs the script under a gate.
-fn run_text<R: Threads + Wait + Sync, G: Gate>(
-    rt: &R,
-    alloc: Global,
-    text: &str,
-    gate: &G,
-) -> Result<Rested, Fail>
-    ensures { IfOk result (λ rested. IsSome rested.world) }
-{
-    let script = read_script(alloc, text.as_bytes())?;
-    Ok(run(rt, alloc, script, gate)?)
+// What is looked at of a run: its trace, how many entries it has by the judge of traces, and what each thread left: how
+// many events it made, and how many turns behind its last one.
+#[derive(Drop)]
+struct Seen {
+    trace: Bytes,
+    entries: u32,
+    left: [Option<(usize, u64)>; 2],
 }
 
-// How many entries the run's trace has, by the judge of traces; a fault where it isn't legal.
-fn legal_entries(alloc: Global, text: &str, rested: &Rested) -> Result<u32, Fail>
-    requires { IsSome rested.now.world }
-{
-    let script = read_script(alloc, text.as_bytes())?;
-    let trace = write_trace(alloc, &script, rested.world.journal())?;
-    Ok(check_trace(alloc, &script, trace.as_slice(), 1)?.entries)
-}
-
-// How many events the thread of a node made, and how many turns behind its last one.
+// What the thread of a node left.
 fn left_by(rested: &Rested, place: usize) -> Option<(usize, u64)> {
     let parting = rested.partings.as_slice().get(place)?;
     Some((parting.log().len(), parting.quiet()))
+}
+
+// Looks at a run; a fault where its trace isn't legal.
+fn look_at(alloc: Global, rested: &Rested) -> Result<Seen, Fail>
+    requires { IsSome rested.now.world }
+{
+    let script = read_script(alloc, BOTH_LOOK.as_bytes())?;
+    let trace = write_trace(alloc, &script, rested.world.journal())?;
+    let entries = check_trace(alloc, &script, trace.as_slice(), 1)?.entries;
+    Ok(Seen {
+        trace,
+        entries,
+        left: [left_by(rested, 0), left_by(rested, 1)],
+    })
+}
+
+// Runs the script under a gate. It alone owns what a run leaves.
+fn see_run<R: Threads + Wait + Sync, G: Gate>(
+    rt: &R,
+    alloc: Global,
+    gate: &G,
+) -> Result<Seen, Fail> {
+    let script = read_script(alloc, BOTH_LOOK.as_bytes())?;
+    let rested = run(rt, alloc, script, gate)?;
+    look_at(alloc, &rested)
 }
 
 // How often a run under a gate that has two nodes at work at once is made.
@@ -63,9 +75,9 @@ fn two_threads_are_at_work_at_once(rt: HostRuntime) -> Result<(), Fail> {
         let gate = BothAtWork {
             words: Words::new(),
         };
-        let rested = run_text(&rt, rt.alloc(), BOTH_LOOK, &gate)?;
+        let seen = see_run(&rt, rt.alloc(), &gate)?;
         assert_eq!(rt; gate.words.read(), (1, 1, 0));
-        assert_eq!(rt; legal_entries(rt.alloc(), BOTH_LOOK, &rested)?, 6);
+        assert_eq!(rt; seen.entries, 6);
     }
     Ok(())
 }
@@ -75,11 +87,9 @@ fn twelve_turns_one_after_the_other(rt: HostRuntime) -> Result<(), Fail> {
     let gate = InOrder {
         words: Words::new(),
     };
-    let rested = run_text(&rt, rt.alloc(), BOTH_LOOK, &gate)?;
+    let seen = see_run(&rt, rt.alloc(), &gate)?;
     assert_eq!(rt; gate.words.read(), (12, 0, 0));
-    let script = read_script(rt.alloc(), BOTH_LOOK.as_bytes())?;
-    let trace = write_trace(rt.alloc(), &script, rested.world.journal())?;
-    assert_eq!(rt; trace.as_slice(), TRACE.as_bytes());
+    assert_eq!(rt; seen.trace.as_slice(), TRACE.as_bytes());
     Ok(())
 }
 
@@ -88,10 +98,10 @@ fn what_threads_leave_is_stepped(rt: HostRuntime) -> Result<(), Fail> {
     let gate = FirstIsLate {
         words: Words::new(),
     };
-    let rested = run_text(&rt, rt.alloc(), BOTH_LOOK, &gate)?;
+    let seen = see_run(&rt, rt.alloc(), &gate)?;
     assert_eq!(rt; gate.words.read().2, 0);
-    assert_eq!(rt; left_by(&rested, 1).map(|left| left.0), Some(0));
-    assert_eq!(rt; legal_entries(rt.alloc(), BOTH_LOOK, &rested)?, 6);
+    assert_eq!(rt; seen.left[1].map(|left| left.0), Some(0));
+    assert_eq!(rt; seen.entries, 6);
     Ok(())
 }
 
@@ -103,9 +113,9 @@ fn the_other_leaves_behind_each_event(rt: HostRuntime) -> Result<(), Fail> {
             words: Words::new(),
             events,
         };
-        let rested = run_text(&rt, rt.alloc(), BOTH_LOOK, &gate)?;
+        let seen = see_run(&rt, rt.alloc(), &gate)?;
         assert_eq!(rt; gate.words.read().2, 0);
-        assert_eq!(rt; legal_entries(rt.alloc(), BOTH_LOOK, &rested)?, 6);
+        assert_eq!(rt; seen.entries, 6);
     }
     Ok(())
 }
@@ -113,10 +123,10 @@ fn the_other_leaves_behind_each_event(rt: HostRuntime) -> Result<(), Fail> {
 #[test]
 fn partings_are_what_the_gate_counts(rt: HostRuntime) -> Result<(), Fail> {
     let gate = Counts::new();
-    let rested = run_text(&rt, rt.alloc(), BOTH_LOOK, &gate)?;
-    for (place, node) in [Node(1), Node(2)].into_iter().enumerate() {
+    let seen = see_run(&rt, rt.alloc(), &gate)?;
+    for (left, node) in seen.left.into_iter().zip([Node(1), Node(2)]) {
         let (_, events, quiet) = gate.of(node);
-        assert_eq!(rt; left_by(&rested, place), Some((events as usize, quiet)));
+        assert_eq!(rt; left, Some((events as usize, quiet)));
         assert!(rt; quiet >= 100_000);
     }
     Ok(())

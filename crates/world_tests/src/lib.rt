@@ -13,8 +13,6 @@ use std::alloc::Global;
 use world_core::World;
 
 #[cfg(test)]
-mod examples;
-#[cfg(test)]
 mod tests;
 
 /// The world of a script after these events, one after another; none where one of them may not come when it comes. An
