@@ -9,8 +9,8 @@ use Rattle.std.proofs.lemmas.List.Sums.{sum_by-cons}
 use Rattle.std.specs.Int.{Width, w16, w32, cast_signed}
 use Rattle.std.specs.Option.{option_map}
 use Rattle.std.specs.Prelude.{All, ◌==◌, int_lt}
-use Rattle.body_fields.proofs.Fields.{bind_some, guard_ended, guard_some, guard_then, some_is}
-use Rattle.body_fields.specs.Fields.{number_at, number_upto}
+use Rattle.body_fields.proofs.Fields.{bind_some, guard_some, guard_then, some_is, whole_is}
+use Rattle.body_fields.specs.Fields.{number_at, number_upto, whole}
 use Rattle.kernel_laws.proofs.Plain.{by_test, Of}
 use Rattle.kernel_laws.specs.Queues.{IsMessage, IsQueueWithinLimits}
 use Rattle.kernel_laws.specs.Sets.{IsSetWithinLimits}
@@ -18,9 +18,9 @@ use Rattle.kernel_model.specs.Queue.{Message, Queue, bytes_of, max_messages, max
 use Rattle.kernel_model.specs.SemaphoreSet.{Semaphore, SemaphoreSet, is_bad_count, max_semaphores, max_value, set_of}
 use Rattle.limit_laws.proofs.Tables.{of-map}
 use Rattle.limit_laws.specs.Within.{IsBodyWithin}
-use Rattle.node_model.specs.Bodies.{AQueue, ASet}
+use Rattle.node_model.specs.Bodies.{AQueue, ASet, Removed}
 use Rattle.node_model.specs.Kinds.{is_object}
-use Rattle.node_model.specs.Spelling.{read_body, read_deed, read_queue, read_set, removed_if}
+use Rattle.node_model.specs.Spelling.{alone, read_body, read_deed, read_queue, read_set}
 use Rattle.pico_base.specs.Options.{◌>>=◌}
 use Rattle.pico_base.specs.declared.numbers.Name.TheVariants.{Proc, Msg, Sem}
 use Rattle.pico_base.specs.declared.numbers.Name.{Name}
@@ -103,40 +103,18 @@ messages-within (suc n) room bytes x e =
 fields-within : (bytes : List ℕ) (q : Queue) → queue_fields_at bytes ≡ Some q → IsQueueWithinLimits q
 unfolding queue_fields_at
 fields-within bytes q e =
-    let a = bind_some (number_upto w32 max_queue_bytes bytes)
-    (λ qbytes. number_at w32 qbytes.1 >>= λ sender. number_at w32 sender.1 >>= λ receiver.
-    number_upto w16 max_messages receiver.1 >>= λ count. messages_at count.0 max_queue_bytes count.1 >>= λ messages.
-    cond (eqb (length messages.1) 0)
-    (Some (record { messages = messages.0; qbytes = qbytes.0; last_sender = sender.0; last_receiver = receiver.0 }))
-    None) q e in
-    let b = bind_some (number_at w32 a.0.1)
-    (λ sender. number_at w32 sender.1 >>= λ receiver. number_upto w16 max_messages receiver.1 >>= λ count.
-    messages_at count.0 max_queue_bytes count.1 >>= λ messages.
-    cond (eqb (length messages.1) 0)
-    (Some (record { messages = messages.0; qbytes = a.0.0; last_sender = sender.0; last_receiver = receiver.0 }))
-    None) q a.2 in
-    let c = bind_some (number_at w32 b.0.1)
-    (λ receiver. number_upto w16 max_messages receiver.1 >>= λ count.
-    messages_at count.0 max_queue_bytes count.1 >>= λ messages.
-    cond (eqb (length messages.1) 0)
-    (Some (record { messages = messages.0; qbytes = a.0.0; last_sender = b.0.0; last_receiver = receiver.0 })) None)
-    q b.2 in
-    let d = bind_some (number_upto w16 max_messages c.0.1)
-    (λ count. messages_at count.0 max_queue_bytes count.1 >>= λ messages.
-    cond (eqb (length messages.1) 0)
-    (Some (record { messages = messages.0; qbytes = a.0.0; last_sender = b.0.0; last_receiver = c.0.0 })) None) q
-    c.2 in
-    let f = bind_some (messages_at d.0.0 max_queue_bytes d.0.1)
-    (λ messages. cond (eqb (length messages.1) 0)
-    (Some (record { messages = messages.0; qbytes = a.0.0; last_sender = b.0.0; last_receiver = c.0.0 })) None) q
-    d.2 in
-    let made : Queue = record { messages = f.0.0; qbytes = a.0.0; last_sender = b.0.0; last_receiver = c.0.0 } in
-    let g = guard_ended (eqb (length f.0.1) 0) made q f.2 in
+    let a = bind_some (number_upto w32 max_queue_bytes bytes) _ q e in
+    let b = bind_some (number_at w32 a.0.1) _ q a.2 in
+    let c = bind_some (number_at w32 b.0.1) _ q b.2 in
+    let d = bind_some (number_upto w16 max_messages c.0.1) _ q c.2 in
+    let f = bind_some (whole (messages_at d.0.0 max_queue_bytes d.0.1)) _ q d.2 in
+    let made : Queue = record { messages = f.0; qbytes = a.0.0; last_sender = b.0.0; last_receiver = c.0.0 } in
     let limit = upto-within w32 max_queue_bytes bytes a.0 a.1 in
     let count = upto-within w16 max_messages c.0.1 d.0 d.1 in
-    let messages = messages-within d.0.0 max_queue_bytes d.0.1 f.0 f.1 in
-    let few : length f.0.0 ≤ 1024 = omega (arith, messages.0, count) in
-    subst IsQueueWithinLimits {x = made} g.1
+    let messages = messages-within d.0.0 max_queue_bytes d.0.1 (f.0, [])
+    (whole_is (messages_at d.0.0 max_queue_bytes d.0.1) f.0 f.1) in
+    let few : length f.0 ≤ 1024 = omega (arith, messages.0, count) in
+    subst IsQueueWithinLimits {x = made} (some_is made q f.2)
     (record { limit = limit; bytes = messages.1; count = few; messages = messages.2 })
 
 queue-within : (bytes : List ℕ) (q : Queue) → queue_at bytes ≡ Some q → IsQueueWithinLimits q
@@ -183,15 +161,13 @@ counted-within : (count : ℕ) (bytes : List ℕ) (s : SemaphoreSet) → counted
     → IsSetWithinLimits s
 unfolding counted_at set_fields_at
 counted-within count bytes s e =
-    let g = let_through (is_bad_count count)
-    (semaphores_at count bytes >>= λ x. cond (eqb (length x.1) 0) (Some (set_of x.0)) None) s e in
+    let g = let_through (is_bad_count count) (whole (semaphores_at count bytes) >>= λ x. Some (set_of x)) s e in
     let bad = or_parts (eqb count 0) (ltb max_semaphores count) g.0 in
-    let a = bind_some (semaphores_at count bytes) (λ x. cond (eqb (length x.1) 0) (Some (set_of x.0)) None) s g.1 in
-    let h = guard_ended (eqb (length a.0.1) 0) (set_of a.0.0) s a.2 in
-    let t = semaphores-within count bytes a.0 a.1 in
-    let least : 1 ≤ length a.0.0 = omega (arith, t.0, some-count count bad.0) in
-    let most : length a.0.0 ≤ 64 = omega (arith, t.0, ltb-false _ _ bad.1) in
-    subst IsSetWithinLimits h.1 (record { least = least; most = most; values = t.1 })
+    let a = bind_some (whole (semaphores_at count bytes)) (λ x. Some (set_of x)) s g.1 in
+    let t = semaphores-within count bytes (a.0, []) (whole_is (semaphores_at count bytes) a.0 a.1) in
+    let least : 1 ≤ length a.0 = omega (arith, t.0, some-count count bad.0) in
+    let most : length a.0 ≤ 64 = omega (arith, t.0, ltb-false _ _ bad.1) in
+    subst IsSetWithinLimits (some_is (set_of a.0) s a.2) (record { least = least; most = most; values = t.1 })
 
 set-within : (bytes : List ℕ) (s : SemaphoreSet) → set_at bytes ≡ Some s → IsSetWithinLimits s
 unfolding set_at
@@ -203,11 +179,11 @@ set-within (code ∷ count ∷ bytes) s e =
 -- ---- a deed
 
 module _ (own most : ℕ) where
-  removed-queue : (id : ℕ) (bytes : List ℕ) → Of (IsBodyWithin own most (Msg id)) (removed_if bytes)
+  removed-queue : (id : ℕ) (bytes : List ℕ) → Of (IsBodyWithin own most (Msg id)) (alone Removed bytes)
   removed-queue id [] = tt
   removed-queue id (b ∷ bytes) = tt
 
-  removed-set : (id : ℕ) (bytes : List ℕ) → Of (IsBodyWithin own most (Sem id)) (removed_if bytes)
+  removed-set : (id : ℕ) (bytes : List ℕ) → Of (IsBodyWithin own most (Sem id)) (alone Removed bytes)
   removed-set id [] = tt
   removed-set id (b ∷ bytes) = tt
 
@@ -217,13 +193,13 @@ module _ (own most : ℕ) where
   body-read (Proc pid) bytes object = absurd (false≢true object)
   body-read (Msg id) [] object = tt
   body-read (Msg id) (code ∷ bytes) object =
-      by_test (Of (IsBodyWithin own most (Msg id))) (code == 6) (removed_if bytes)
+      by_test (Of (IsBodyWithin own most (Msg id))) (code == 6) (alone Removed bytes)
       (option_map AQueue (queue_at (code ∷ bytes))) (λ _. removed-queue id bytes)
       (λ _. of-map (IsBodyWithin own most (Msg id)) (queue_at (code ∷ bytes)) AQueue
       (λ q is. queue-within (code ∷ bytes) q is))
   body-read (Sem id) [] object = tt
   body-read (Sem id) (code ∷ bytes) object =
-      by_test (Of (IsBodyWithin own most (Sem id))) (code == 6) (removed_if bytes)
+      by_test (Of (IsBodyWithin own most (Sem id))) (code == 6) (alone Removed bytes)
       (option_map ASet (set_at (code ∷ bytes))) (λ _. removed-set id bytes)
       (λ _. of-map (IsBodyWithin own most (Sem id)) (set_at (code ∷ bytes)) ASet
       (λ s is. set-within (code ∷ bytes) s is))

@@ -1,12 +1,12 @@
 -- Bodies, messages whose texts lie in one buffer, and which slot a receive asks for, that the checker computes.
 use Rattle.std.proofs.Common.{◌≡◌, List, [], ◌∷◌, pos, negsuc, Some, None, refl}
-use Rattle.kernel_model.specs.Queue.{empty_queue}
+use Rattle.kernel_model.specs.Queue.{Message, empty_queue}
 use Rattle.sysv_msg.specs.Body.{body, message_field}
 use Rattle.sysv_msg.specs.Heads.{Head, messages_in}
 use Rattle.sysv_msg.specs.Linked.{slot_for}
-use Rattle.sysv_msg.specs.Measured.{FitsQueue, all_messages, queue_with}
+use Rattle.sysv_msg.specs.Measured.{FitsQueue, queue_with}
 use Rattle.sysv_msg.specs.Reading.{text_at, class_at, message_at, messages_at}
-use Rattle.body_fields.specs.Fields.{number_upto}
+use Rattle.body_fields.specs.Fields.{number_upto, whole}
 
 -- in the buffer "hi.yo" the text "hi" is of a message of type 3, and "yo" of one of type 258
 abbrev two_heads : List Head
@@ -31,11 +31,11 @@ a_message : message_field (record { class = pos 258; text = 104 ∷ 105 ∷ [] }
 a_message = refl
 
 -- one message was read and nothing is behind it, or a byte is
-all_there : all_messages (Some (record { class = pos 3; text = [] } ∷ [], []))
+all_there : whole {V = List Message} (Some (record { class = pos 3; text = [] } ∷ [], []))
     ≡ Some (record { class = pos 3; text = [] } ∷ [])
 all_there = refl
 
-more_behind : all_messages (Some (record { class = pos 3; text = [] } ∷ [], 0 ∷ [])) ≡ None
+more_behind : whole {V = List Message} (Some (record { class = pos 3; text = [] } ∷ [], 0 ∷ [])) ≡ None
 more_behind = refl
 
 -- a message with the text "hi" is read so with the limit on the sum and without it, and its text has 2 bytes

@@ -3,9 +3,9 @@ use Rattle.std.proofs.Common.{◌≡◌, ◌∙◌, ℕ, ◌*◌, ◌<◌, ◌�
 use Rattle.std.specs.List.{flat_map, AllByRecursion}
 use Rattle.std.proofs.lemmas.List.Sums.{sum_by-cons}
 use Rattle.kernel_model.specs.Queue.{Message, bytes_of, max_text, max_queue_bytes}
+use Rattle.body_fields.specs.Fields.{whole}
 use Rattle.sysv_msg.specs.Body.{message_field}
 use Rattle.sysv_msg.specs.Limits.{IsSendable}
-use Rattle.sysv_msg.specs.Measured.{all_messages}
 use Rattle.sysv_msg.specs.Reading.{messages_at}
 use Rattle.body_fields.proofs.Fields.{IsBytes, some_is}
 use Rattle.sysv_msg.proofs.Messages.{messages_take, messages_again}
@@ -50,7 +50,7 @@ none_widely n bytes fits none = unread n bytes (messages_at n max_queue_bytes by
 
 left_over : (n : ℕ) (bytes : List ℕ) (o : Option (List Message × List ℕ)) (ms : List Message) (rest : List ℕ)
     → IsBytes bytes → messages_at n max_queue_bytes bytes ≡ o
-    → messages_at n (n * max_text) bytes ≡ Some (ms, rest) → eqb (length rest) 0 ≡ false → all_messages o ≡ None
+    → messages_at n (n * max_text) bytes ≡ Some (ms, rest) → eqb (length rest) 0 ≡ false → whole o ≡ None
 left_over n bytes None ms rest fits e read more = refl
 left_over n bytes (Some x) ms rest fits e read more =
     let same : x ≡ (ms, rest) = some_is x (ms, rest) (sym (widely n bytes x fits e) ∙ read) in
@@ -59,7 +59,7 @@ left_over n bytes (Some x) ms rest fits e read more =
 -- bytes behind messages make them none of a queue's
 pub none_left : (n : ℕ) (bytes : List ℕ) (ms : List Message) (rest : List ℕ) → IsBytes bytes
     → messages_at n (n * max_text) bytes ≡ Some (ms, rest) → eqb (length rest) 0 ≡ false
-    → all_messages (messages_at n max_queue_bytes bytes) ≡ None
+    → whole (messages_at n max_queue_bytes bytes) ≡ None
 none_left n bytes ms rest fits read more =
     left_over n bytes (messages_at n max_queue_bytes bytes) ms rest fits refl read more
 

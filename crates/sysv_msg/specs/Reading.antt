@@ -2,7 +2,7 @@
 use Rattle.std.specs.Prelude.{ℕ, ℤ, zero, suc, ◌-◌, pos, List, [], ◌∷◌, length, take, drop, Option, Some, None, nat_lt, int_lt, min, ◌==◌, if◌then◌else◌}
 use Rattle.std.specs.Int.{w16, w32, cast_signed}
 use Rattle.pico_base.specs.Options.{◌>>=◌}
-use Rattle.body_fields.specs.Fields.{number_at, number_upto}
+use Rattle.body_fields.specs.Fields.{number_at, number_upto, whole}
 use Rattle.kernel_model.specs.Queue.{Message, Queue, max_text, max_queue_bytes, max_messages}
 use Rattle.sysv_msg.specs.Body.{queue_code}
 
@@ -39,15 +39,8 @@ fields_at bytes = do
   sender ← number_at w32 qbytes.1
   receiver ← number_at w32 sender.1
   count ← number_upto w16 max_messages receiver.1
-  messages ← messages_at count.0 max_queue_bytes count.1
-  if length messages.1 == 0 then Some
-      (record {
-        messages = messages.0;
-        qbytes = qbytes.0;
-        last_sender = sender.0;
-        last_receiver =
-            receiver.0;
-      }) else None
+  messages ← whole (messages_at count.0 max_queue_bytes count.1)
+  Some (record { messages = messages; qbytes = qbytes.0; last_sender = sender.0; last_receiver = receiver.0 })
 
 unfoldable pub queue_at : List ℕ → Option Queue
 queue_at [] = None

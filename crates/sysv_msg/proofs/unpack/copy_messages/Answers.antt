@@ -1,9 +1,9 @@
 use Rattle.std.proofs.Common.{◌∙◌, ℕ, ◌≡◌, ◌-◌, ◌*◌, List, Some, SFits, w32, [], length, ap, sym, refl, arith, rules}
 use Rattle.std.proofs.lemmas.Int.{to_z-of_z}
 use Rattle.kernel_model.specs.Queue.{Message, bytes_of, max_text, max_queue_bytes}
+use Rattle.body_fields.specs.Fields.{whole}
 use Rattle.sysv_msg.specs.Heads.{Head, messages_in, nodes_in}
 use Rattle.sysv_msg.specs.Linked.{messages_of}
-use Rattle.sysv_msg.specs.Measured.{all_messages}
 use Rattle.sysv_msg.specs.Reading.{messages_at}
 use Rattle.sysv_msg.proofs.Copied.{begins_copying, copied_more, text_lies_within}
 use Rattle.sysv_msg.proofs.Dense.{dense_read, read_size}
@@ -22,7 +22,7 @@ loop-init c =
 
 pub returns-in_default : goal.returns-in_default
 returns-in_default c =
-    ap all_messages (none_widely c.args.count c.args.bytes.now (λ i. omega (arith, c.type_inv.bytes i))
+    ap whole (none_widely c.args.count c.args.bytes.now (λ i. omega (arith, c.type_inv.bytes i))
     (stops c.args.count c.loop.counter c.loop.rest.now (messages_in c.args.bytes.now c.loop.links.nodes)
     (messages_at c.args.count (c.args.count * max_text) c.args.bytes.now) c.loop-test.true
     c.in_default.ensures.read c.loop.invariant.copied.read))
@@ -104,6 +104,6 @@ returns c =
     let read : messages_at c.args.count max_queue_bytes c.args.bytes.now ≡ Some (ms, []) =
     fit.same ∙ wide ∙ ap (λ (r : List ℕ). Some (ms, r)) fit.nothing in
     record {
-      all = ap all_messages read ∙ ap (λ (ms : List Message). Some ms) (sym shown);
+      all = ap whole read ∙ ap (λ (ms : List Message). Some ms) (sym shown);
       sum = sum ∙ ap bytes_of (sym shown);
     }

@@ -2,7 +2,7 @@ use Rattle.std.proofs.Common.{◌≡◌, ◌∙◌, ◌*◌, ◌<◌, ◌≤◌,
 use Rattle.std.proofs.lemmas.Bool.{eqb-true}
 use Rattle.std.proofs.lemmas.List.{nil_from_length}
 use Rattle.kernel_model.specs.Queue.{bytes_of, max_text, max_queue_bytes}
-use Rattle.sysv_msg.specs.Measured.{all_messages}
+use Rattle.body_fields.specs.Fields.{whole}
 use Rattle.sysv_msg.proofs.Dense.{read_size}
 use Rattle.sysv_msg.proofs.Tested.{none_left, none_beyond, read_alike}
 use Rattle.sysv_msg.proofs.unpack.size_of_texts.Goals as goal
@@ -27,7 +27,7 @@ returns-then-size c =
     let size = read_size c.args.count (c.args.count * max_text) c.args.bytes.now c.requires.messages c.args.rest.now
     (λ i. omega (arith, c.type_inv.bytes i)) c.requires.are_read nothing in
     let beyond : max_queue_bytes < bytes_of c.requires.messages = omega (arith, size, c.from.ensures) in
-    ap all_messages (none_beyond c.args.count c.args.bytes.now c.requires.messages c.args.rest.now
+    ap whole (none_beyond c.args.count c.args.bytes.now c.requires.messages c.args.rest.now
     (λ i. omega (arith, c.type_inv.bytes i)) c.requires.are_read beyond)
 
 pub returns : goal.returns
