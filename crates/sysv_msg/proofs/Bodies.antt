@@ -7,12 +7,11 @@ use Rattle.std.proofs.lemmas.Bool.{eqb-true}
 use Rattle.pico_base.specs.Options.{◌>>=◌}
 use Rattle.kernel_model.specs.Queue.{Message, Queue, max_queue_bytes, max_messages}
 use Rattle.sysv_msg.specs.Body.{queue_code, message_field, IsBodyOf}
-use Rattle.body_fields.specs.Fields.{TellsPacked, number_at, number_upto, whole}
+use Rattle.body_fields.specs.Fields.{TellsPacked, number_at, number_upto}
 use Rattle.sysv_msg.specs.Measured.{HasFields, queue_with}
-use Rattle.sysv_msg.specs.Reading.{messages_at, fields_at, queue_at}
-use Rattle.body_fields.proofs.Fields.{IsBytes, IsBytes-rest, bind_some, guard_then, some_is, refused, Takes, Takes-all, Takes-then, whole_is, wide16, wide32, number_takes, number_again, number_upto_takes, number_upto_again}
-use Rattle.sysv_msg.proofs.Again.{all_again}
-use Rattle.sysv_msg.proofs.Messages.{messages_take}
+use Rattle.sysv_msg.specs.Reading.{all_messages_at, fields_at, queue_at}
+use Rattle.body_fields.proofs.Fields.{IsBytes, IsBytes-rest, bind_some, guard_then, some_is, refused, Takes-then, wide16, wide32, number_takes, number_again, number_upto_takes, number_upto_again}
+use Rattle.sysv_msg.proofs.Messages.{all_theirs, messages_again}
 
 abbrev num : ℕ → List ℕ
 num n = to_be_bytes w32 n
@@ -27,28 +26,25 @@ fields_take bytes q fits e =
     let b = bind_some (number_at w32 a.0.1) _ q a.2 in
     let c = bind_some (number_at w32 b.0.1) _ q b.2 in
     let d = bind_some (number_upto w16 max_messages c.0.1) _ q c.2 in
-    let f = bind_some (whole (messages_at d.0.0 max_queue_bytes d.0.1)) _ q d.2 in
+    let f = bind_some (all_messages_at d.0.0 d.0.1) _ q d.2 in
     let made : Queue = record { messages = f.0; qbytes = a.0.0; last_sender = b.0.0; last_receiver = c.0.0 } in
     let t0 = number_upto_takes w32 (2 ^ 32) wide32 max_queue_bytes bytes a.0 fits a.1 in
     let t1 = number_takes w32 (2 ^ 32) wide32 a.0.1 b.0 t0.0.rest_fits b.1 in
     let t2 = number_takes w32 (2 ^ 32) wide32 b.0.1 c.0 t1.0.rest_fits c.1 in
     let t3 = number_upto_takes w16 (2 ^ 16) wide16 max_messages c.0.1 d.0 t2.0.rest_fits d.1 in
-    let t4 = messages_take d.0.0 max_queue_bytes d.0.1 (f.0, []) t3.0.rest_fits
-    (whole_is (messages_at d.0.0 max_queue_bytes d.0.1) f.0 f.1) in
-    let e34 = Takes-then c.0.1 (small d.0.0) d.0.1 (flat_map message_field f.0) [] t3.0 t4.0 in
+    let t4 = all_theirs d.0.0 d.0.1 f.0 t3.0.rest_fits f.1 in
     let e12 = Takes-then a.0.1 (num b.0.0) b.0.1 (num c.0.0) c.0.1 t1.0 t2.0 in
-    let e14 = Takes-then a.0.1 (num b.0.0 ++ num c.0.0) c.0.1
-    (small d.0.0 ++ flat_map message_field f.0) [] e12 e34 in
-    let all : List ℕ = num a.0.0 ++ ((num b.0.0 ++ num c.0.0) ++ (small d.0.0 ++ flat_map message_field f.0)) in
-    let e04 : Takes bytes all [] = Takes-then bytes (num a.0.0) a.0.1
-    ((num b.0.0 ++ num c.0.0) ++ (small d.0.0 ++ flat_map message_field f.0)) [] t0.0 e14 in
+    let e13 = Takes-then a.0.1 (num b.0.0 ++ num c.0.0) c.0.1 (small d.0.0) d.0.1 e12 t3.0 in
+    let e03 = Takes-then bytes (num a.0.0) a.0.1 ((num b.0.0 ++ num c.0.0) ++ small d.0.0) d.0.1 t0.0 e13 in
+    let fields : bytes ≡ num a.0.0 ++ ((num b.0.0 ++ num c.0.0) ++ (small d.0.0 ++ flat_map message_field f.0)) =
+    e03.parts ∙ ap (λ (r : List ℕ). (num a.0.0 ++ ((num b.0.0 ++ num c.0.0) ++ small d.0.0)) ++ r) t4.spelled
+    ∙ simp append_assoc in
     let counted : bytes ≡ num a.0.0
     ++ ((num b.0.0 ++ num c.0.0) ++ (small (length f.0) ++ flat_map message_field f.0)) =
-    Takes-all bytes all e04
-    ∙ ap (λ (k : ℕ). num a.0.0 ++ ((num b.0.0 ++ num c.0.0) ++ (small k ++ flat_map message_field f.0)))
-    (sym t4.1) in
+    fields ∙ ap (λ (k : ℕ). num a.0.0 ++ ((num b.0.0 ++ num c.0.0) ++ (small k ++ flat_map message_field f.0)))
+    (sym t4.count) in
     subst (λ (x : Queue). IsBodyOf x (queue_code ∷ bytes)) (some_is made q f.2) (record {
-      limits = record { qbytes = t0.1; count = omega (arith, t4.1, t3.1); bytes = t4.2; each = t4.3 };
+      limits = record { qbytes = t0.1; count = omega (arith, t4.count, t3.1); bytes = t4.within; each = t4.each };
       sender = t1.1;
       receiver = t2.1;
       spelled = ap (λ (r : List ℕ). queue_code ∷ r) counted;
@@ -79,7 +75,7 @@ fields_again q bytes is =
           (small (length q.messages) ++ flat_map message_field q.messages) is.receiver,
       number_upto_again w16 (2 ^ 16) wide16 max_messages (length q.messages) (flat_map message_field q.messages)
           (omega arith) count,
-      all_again q.messages limits.each limits.bytes,
+      messages_again q.messages limits.each limits.bytes,
     ) refl
 
 -- bytes that are read as a queue are its spelling
@@ -123,7 +119,7 @@ fields_read bytes a b c d qbytes sender receiver count =
 -- bytes whose numbers and whose messages were all read are a queue's body
 pub is_body : (qbytes sender receiver count : ℕ) (messages : List Message) (section bytes : List ℕ) → IsBytes bytes
     → HasFields qbytes sender receiver count section (queue_at bytes)
-    → whole (messages_at count max_queue_bytes section) ≡ Some messages
+    → all_messages_at count section ≡ Some messages
     → IsBodyOf (record { messages = messages; qbytes = qbytes; last_sender = sender; last_receiver = receiver }) bytes
 is_body qbytes sender receiver count messages section bytes fits fields all =
     queue_takes bytes _ fits (fields.is_read ∙ ap (queue_with qbytes sender receiver) all)
@@ -131,13 +127,13 @@ is_body qbytes sender receiver count messages section bytes fits fields all =
 -- bytes whose messages can't all be read, or that have more behind them, are no queue's body
 pub is_no_body : (qbytes sender receiver count : ℕ) (section bytes : List ℕ)
     → HasFields qbytes sender receiver count section (queue_at bytes)
-    → whole (messages_at count max_queue_bytes section) ≡ None → (q : Queue) → IsBodyOf q bytes → ⊥
+    → all_messages_at count section ≡ None → (q : Queue) → IsBodyOf q bytes → ⊥
 is_no_body qbytes sender receiver count section bytes fields none =
     no_queue bytes (fields.is_read ∙ ap (queue_with qbytes sender receiver) none)
 
 tells : (qbytes sender receiver count : ℕ) (section bytes : List ℕ) (all : Option (List Message)) → IsBytes bytes
     → HasFields qbytes sender receiver count section (queue_at bytes)
-    → whole (messages_at count max_queue_bytes section) ≡ all → TellsPacked (λ q. IsBodyOf q bytes) (is_some all)
+    → all_messages_at count section ≡ all → TellsPacked (λ q. IsBodyOf q bytes) (is_some all)
 tells qbytes sender receiver count section bytes None fits fields is =
     is_no_body qbytes sender receiver count section bytes fields is
 tells qbytes sender receiver count section bytes (Some messages) fits fields is =
@@ -149,7 +145,7 @@ tells qbytes sender receiver count section bytes (Some messages) fits fields is 
 -- whether the bytes behind the numbers are messages tells whether the whole is a queue's body
 pub tells_packed : (qbytes sender receiver count : ℕ) (section bytes : List ℕ) (told : Bool) → IsBytes bytes
     → HasFields qbytes sender receiver count section (queue_at bytes)
-    → told ≡ is_some (whole (messages_at count max_queue_bytes section)) → TellsPacked (λ q. IsBodyOf q bytes) told
+    → told ≡ is_some (all_messages_at count section) → TellsPacked (λ q. IsBodyOf q bytes) told
 tells_packed qbytes sender receiver count section bytes told fits fields is =
     subst (TellsPacked (λ q. IsBodyOf q bytes)) (sym is) (tells qbytes sender receiver count section bytes
-    (whole (messages_at count max_queue_bytes section)) fits fields refl)
+    (all_messages_at count section) fits fields refl)
