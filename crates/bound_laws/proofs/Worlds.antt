@@ -23,7 +23,8 @@ use Rattle.world_laws.proofs.Steps.{Heads, changes-by-run, changes-by-take, fram
 use Rattle.rule_laws.proofs.own.Enabled.{IsRun, enabled-runs}
 use Rattle.rule_laws.proofs.Enabled.{IsTaken, enabled-takes}
 use Rattle.bound_laws.specs.Bounded.{FrameIsBounded, IsBounded, IsShapedAndBounded, ItemsAreOfNodes, NodeIsBounded, SendIsBounded, StepIsBounded}
-use Rattle.bound_laws.proofs.Parts.{all-both, all-parts, of-some}
+use Rattle.kernel_laws.proofs.Plain.{of-some}
+use Rattle.kernel_laws.proofs.Lists.{all-both, all-parts}
 use Rattle.bound_laws.proofs.Turns.{run-turn-bounded, take-turn-bounded}
 
 module _ (script : Script) where

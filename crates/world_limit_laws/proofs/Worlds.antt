@@ -21,10 +21,10 @@ use Rattle.world_laws.proofs.Steps.{Heads, changes-by-run, changes-by-take, fram
 use Rattle.rule_laws.proofs.own.Enabled.{IsRun, enabled-runs}
 use Rattle.rule_laws.proofs.Enabled.{IsTaken, enabled-takes}
 use Rattle.limit_laws.specs.Within.{IsFrameWithin, IsNodeWithin, IsSentWithin, IsStepWithin}
-use Rattle.limit_laws.proofs.Tables.{all-at, all-both, of-some}
+use Rattle.kernel_laws.proofs.Plain.{of-some}
 use Rattle.limit_laws.proofs.Turns.{opening-within, sent-has-variables, started-within, taken-within, unborn-within}
 use Rattle.bound_laws.specs.Bounded.{IsShapedAndBounded, StepIsBounded}
-use Rattle.bound_laws.proofs.Parts.{all-parts}
+use Rattle.kernel_laws.proofs.Lists.{all-at, all-both, all-parts}
 use Rattle.bound_laws.proofs.Runs.{nothing-on-its-way}
 use Rattle.bound_laws.proofs.Turns.{run-turn-bounded, take-turn-bounded}
 use Rattle.bound_laws.proofs.Worlds.{head-is-bounded, to-nodes}
