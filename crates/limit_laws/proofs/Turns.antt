@@ -522,18 +522,18 @@ module _ (script : Script) (sound : IsSoundScript script) where
   take-turn-within n sender (frames.ExitTo parcel) k f ranges room = take-exit-within n sender parcel k f
 
 -- a frame that comes is within the limits, and there is room for what it makes the node send
-frame-that-comes : (n : Node) (sender : ℕ) (frame : Frame) → may_come n sender frame ≡ true
+what-comes-is-within-and-has-room : (n : Node) (sender : ℕ) (frame : Frame) → may_come n sender frame ≡ true
     → (is_frame frame ≡ true) × (has_room_for n sender frame ≡ true)
 unfolding may_come
-frame-that-comes n sender frame may =
+what-comes-is-within-and-has-room n sender frame may =
     let first = and_parts (is_frame frame) (has_room_for n sender frame && is_given_out n frame) may
     in (first.0, (and_parts (has_room_for n sender frame) (is_given_out n frame) first.1).0)
 
 -- A node within limits that takes a frame stays so, and so is what it sends.
 pub taken-within : TakingKeepsLimits
 taken-within script n sender frame s sound k ranges is =
-    let taken = passed-test (may_come n sender frame) (take_by_kind script n sender frame) s is
-    in let come = frame-that-comes n sender frame taken.0
+    let taken = if-some (may_come n sender frame) (take_by_kind script n sender frame) s is
+    in let come = what-comes-is-within-and-has-room n sender frame taken.0
     in of-some (IsStepWithin script) (take_by_kind script n sender frame) s
     (take-turn-within script sound n sender frame k come.0 ranges come.1) taken.1
 
