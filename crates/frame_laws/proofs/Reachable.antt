@@ -12,7 +12,7 @@ use Rattle.frame_laws.specs.Laws.{FramesAreWithinLimits}
 pub frames_are_within_limits_lemma : FramesAreWithinLimits
 frames_are_within_limits_lemma script w sound run to sender f there =
     let settled : IsSettled script w = reachable-is-settled script sound w run
-    in let within : IsWorldWithin script w = settled.within
+    in let within : IsWorldWithin script w = settled.roomy.within
     in let frame : IsFrameWithin f =
     All-contains IsFrameWithin (frames_to w to sender) f
     (All-from_recursion IsFrameWithin (frames_to w to sender) (within.streams to sender)) there

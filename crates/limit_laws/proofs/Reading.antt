@@ -10,12 +10,11 @@ use Rattle.std.specs.Option.{option_map}
 use Rattle.std.specs.Prelude.{All, ◌==◌, int_lt}
 use Rattle.body_fields.proofs.Fields.{bind_some, guard_some, guard_then, some_is, whole_is}
 use Rattle.body_fields.specs.Fields.{many_at, number_at, number_upto, whole}
-use Rattle.kernel_laws.proofs.Plain.{by_test, Of}
+use Rattle.kernel_laws.proofs.Plain.{by_test, Of, of-map}
 use Rattle.kernel_laws.specs.Queues.{IsMessage, IsQueueWithinLimits}
 use Rattle.kernel_laws.specs.Sets.{IsSetWithinLimits}
 use Rattle.kernel_model.specs.Queue.{Message, Queue, bytes_of, max_messages, max_queue_bytes, max_text}
 use Rattle.kernel_model.specs.SemaphoreSet.{Semaphore, SemaphoreSet, is_bad_count, max_semaphores, max_value, set_of}
-use Rattle.limit_laws.proofs.Tables.{of-map}
 use Rattle.limit_laws.specs.Within.{IsBodyWithin}
 use Rattle.node_model.specs.Bodies.{AQueue, ASet, Removed}
 use Rattle.node_model.specs.Kinds.{is_object}

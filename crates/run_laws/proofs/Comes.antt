@@ -1,5 +1,5 @@
--- In the world of a run each frame that a node may take passes the test of what may come: it is within the limits, there
--- is room for what it makes the node send, and no process comes whose number the node has still to give.
+-- In the world of a run each frame that a node may take passes the test of what may come: it is within the limits,
+-- there is room for what it makes the node send, and no process comes whose number the node has still to give.
 use Rattle.std.proofs.Common.{◌≡◌, ℕ, ◌≤◌, Bool, true, false, not, ◌&&◌, if◌then◌else◌, List, [], ◌∷◌, length, refl, ap, sym, subst, ◌∙◌, arith}
 use Rattle.std.specs.List.{AllByRecursion}
 use Rattle.std.proofs.lemmas.Bool.{lt-ltb}
