@@ -4,6 +4,3 @@
 mod parts;
 
 pub use parts::{Parts, read_checked};
-
-#[cfg(test)]
-mod tests;

@@ -98,6 +98,3 @@ pub fn give_all<B: Shared + Drop>(
     })?;
     Ok(Frames::from_vec(frames))
 }
-
-#[cfg(test)]
-mod tests;

@@ -8,6 +8,3 @@ mod reading;
 mod writing;
 
 pub use family::{Family, Waited};
-
-#[cfg(test)]
-mod tests;

@@ -17,6 +17,3 @@ pub use standard::{StdSink, StdSource};
 pub use stops::{ReadStop, WriteStop};
 pub use sure::{SureSink, SureSource};
 pub use whole::{read_all, write_all};
-
-#[cfg(test)]
-mod tests;

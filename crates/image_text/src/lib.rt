@@ -16,6 +16,3 @@ pub use fault::{ImageFault, ImageStop};
 pub use freezing::freeze;
 pub use image::{Said, read_image};
 pub use placed::Placed;
-
-#[cfg(test)]
-mod tests;

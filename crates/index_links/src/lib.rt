@@ -6,7 +6,5 @@ mod kept;
 mod keys;
 mod links;
 mod places;
-#[cfg(test)]
-mod tests;
 
 pub use links::{Links, Slot};

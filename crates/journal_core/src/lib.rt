@@ -15,6 +15,3 @@ pub use fault::AppendFault;
 pub use lock::JournalLock;
 pub use seat::{JSeat, Seats};
 pub use stamped::{Journal, Stamped};
-
-#[cfg(test)]
-mod tests;

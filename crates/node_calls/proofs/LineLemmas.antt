@@ -1,5 +1,5 @@
 -- The lines of a block, with the exit that its end stands for, by the lines that it is written with.
-use Rattle.std.proofs.Common.{◌≡◌, ◌∙◌, ℕ, ◌+◌, ◌-◌, ◌<◌, zero, suc, Bool, true, false, not, ◌&&◌, ◌||◌, nat_eq, List, [], ◌∷◌, length, take, ◌≤◌, Option, Some, None, refl, sym, ap, arith, subst}
+use Rattle.std.proofs.Common.{◌≡◌, ◌∙◌, ℕ, ◌+◌, ◌-◌, ◌<◌, zero, suc, Bool, true, false, not, ◌&&◌, ◌||◌, nat_eq, List, [], ◌∷◌, length, Option, Some, None, refl, sym, ap, arith}
 use Rattle.std.specs.Prelude.{slice_get, if◌then◌else◌}
 use Rattle.std.specs.List.{list_all, list_any}
 use Rattle.pico_base.specs.declared.script.Line.{Line}
@@ -151,42 +151,3 @@ count-is script node n block own sound there is count =
     let right : ends_rightly block.lines ≡ true = ends_last script.blocks (node - 1) block sound.exits (sym there)
     in count ∙ ap written_count is ∙ counted_lines block.lines right
     ∙ ap (λ (b : Option Block). length (lines_in b)) there
-
--- A line is reached where no line before it is an exit.
-
-first_goes_on : (b rest : Bool) → (b || rest) ≡ false → (b ≡ false) × (rest ≡ false)
-first_goes_on true rest h = absurd (cc)
-first_goes_on false rest h = (refl, h)
-
-reached_before : (lines : List Line) (i : ℕ) → i ≤ length lines
-    → list_any (λ (l : Line). is_exit l.call) (take i lines) ≡ false
-    → i < length (with_exit lines)
-reached_before [] i within h = omega arith
-reached_before (x ∷ xs) zero within h = some_first (is_exit x.call) x (with_exit xs)
-  where
-    some_first : (b : Bool) (line : Line) (rest : List Line) → 0 < length (exit_or b line rest)
-    some_first true line rest = omega arith
-    some_first false line rest = omega arith
-reached_before (x ∷ xs) (suc i) within h =
-    let parts = first_goes_on (is_exit x.call) (list_any (λ (l : Line). is_exit l.call) (take i xs)) h
-    in let later : i < length (with_exit xs) = reached_before xs i (omega arith) parts.1
-    in goes_on (is_exit x.call) x (with_exit xs) i parts.0 later
-  where
-    goes_on : (b : Bool) (line : Line) (rest : List Line) (i : ℕ) → b ≡ false → i < length rest
-        → suc i < length (exit_or b line rest)
-    goes_on true line rest i h later = absurd (cc)
-    goes_on false line rest i h later = omega arith
-
--- a place, at most right behind the written lines, can be reached where no line before it is an exit
-pub is-reached : (script : Script) (node i : ℕ) (block : Block) (own : List Line) → Some block ≡ block_at script node
-    → own ≡ block.lines
-    → i ≤ length own → list_any (λ (l : Line). is_exit l.call) (take i own) ≡ false → i < length (lines_of script node)
-is-reached script node i block own there is within h =
-    let low : i < length (with_exit own) = reached_before own i within h
-    in subst (λ (b : Option Block). i < length (lines_in b)) there
-    (subst (λ (ls : List Line). i < length (with_exit ls)) is low)
-
--- a truth value that is not true is false
-pub from-not : (b : Bool) → not b ≡ true → b ≡ false
-from-not true h = absurd (cc)
-from-not false h = refl

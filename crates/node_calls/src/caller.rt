@@ -6,8 +6,6 @@ ghost use Rattle.kernel_model.specs.Fitting.{asks_again, child_vars, set_variabl
 ghost use Rattle.kernel_model.specs.Signals.{count_up};
 ghost use Rattle.node_calls.specs.Caller.{BlockCaller, HasLine, are_rising, answered, beginning, call_due, place_of, started};
 
-#[cfg(test)]
-use crate::lines::is_reached;
 use crate::lines::{Terms, as_written, count, terms_at, written_line};
 use crate::replies::{tries_again, value_in};
 use crate::variables::Variables;
@@ -229,15 +227,5 @@ impl Caller {
     {
         let terms = terms_at(script, self.block, self.line);
         self.variables.with_zero(self.alloc, terms.set)
-    }
-}
-
-#[cfg(test)]
-impl Caller {
-    /// Whether no line before the reached one is an exit, and the reached one isn't past the end.
-    pub(crate) fn reaches(&self, script: &Script) -> bool
-        ensures { IsTrue result → HasLine script.now self.now }
-    {
-        is_reached(script, self.block, self.line)
     }
 }

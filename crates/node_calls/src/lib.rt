@@ -9,6 +9,3 @@ mod variables;
 
 pub use caller::Caller;
 pub use laws::{callers_begin_at_their_blocks, replies_move_places};
-
-#[cfg(test)]
-mod tests;

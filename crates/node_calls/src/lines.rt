@@ -1,9 +1,8 @@
 //! The lines of a block, with the exit that its end stands for.
-ghost use Rattle.std.specs.Prelude.{◌≡◌, ◌+◌, ◌<◌, None, IfSome, IsTrue, length, slice_get};
-ghost use Rattle.std.specs.List.{list_any};
+ghost use Rattle.std.specs.Prelude.{◌≡◌, ◌+◌, ◌<◌, None, IfSome, length, slice_get};
 ghost use Rattle.std.specs.Option.{option_copied};
 ghost use Rattle.kernel_model.specs.Fitting.{block_at};
-ghost use Rattle.kernel_model.specs.Script.{IsSoundScript, is_exit};
+ghost use Rattle.kernel_model.specs.Script.{IsSoundScript};
 ghost use Rattle.node_model.specs.Caller.{lines_of};
 ghost use Rattle.node_calls.specs.Lines.{written_lines, written_count};
 
@@ -98,29 +97,5 @@ pub(crate) fn count(script: &Script, node: Node) -> usize
     match block_of(script, node) {
         Some(block) => count_with_exit(block.lines.as_slice()),
         None => 0,
-    }
-}
-
-/// Whether one of the lines is an exit.
-#[cfg(test)]
-fn any_exit(lines: &[Line]) -> bool
-    ensures { result ≡ list_any (λ l. is_exit l.call) lines.now }
-{
-    lines
-        .iter()
-        .any(|line| matches!(line.call, Call::Exit { .. }))
-}
-
-/// Whether a line is reached, for scripts of which it isn't known that they are sound.
-#[cfg(test)]
-pub(crate) fn is_reached(script: &Script, node: Node, line: usize) -> bool
-    ensures { IsTrue result → line < length (lines_of script.now node) }
-{
-    match block_of(script, node) {
-        Some(block) => {
-            let lines = block.lines.as_slice();
-            line <= lines.len() && !any_exit(&lines[..line])
-        }
-        None => false,
     }
 }

@@ -18,6 +18,3 @@ pub use ending::{ServeFault, commit_exit};
 pub use laws::{read_bodies_are_spelled, spelled_bodies_are_read};
 pub use serving::{Served, bury, serve};
 pub use unpacking::is_body;
-
-#[cfg(test)]
-mod tests;

@@ -1,3 +1,11 @@
-//! The bytes of each part, and bytes that are none's.
+//! The bytes of each part, and bytes that are none's; and what parts answer at their edges.
+mod copies;
+mod families;
+mod keys;
+mod leases;
+mod lines;
+mod links;
 mod queues;
 mod sets;
+mod signals;
+mod watches;

@@ -13,6 +13,3 @@ pub use fault::{BoxFault, BoxStop};
 pub use heading::Heading;
 pub use read::{Boxes, Sandbox, read_boxes};
 pub use text::{Journals, boxes_text};
-
-#[cfg(test)]
-mod tests;

@@ -4,6 +4,3 @@
 mod calls;
 
 pub use calls::{call_naming, call_with};
-
-#[cfg(test)]
-mod tests;

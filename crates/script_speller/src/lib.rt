@@ -6,6 +6,3 @@ mod text;
 mod words;
 
 pub use text::script_text;
-
-#[cfg(test)]
-mod tests;

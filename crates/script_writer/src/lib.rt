@@ -4,6 +4,3 @@
 mod generator;
 
 pub use generator::generate;
-
-#[cfg(test)]
-mod tests;

@@ -10,6 +10,3 @@ mod writing;
 pub const PACKED: usize = 55;
 
 pub use signals::Signals;
-
-#[cfg(test)]
-mod tests;

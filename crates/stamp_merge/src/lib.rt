@@ -9,9 +9,6 @@ ghost use Rattle.stamp_merge.specs.Sorted.{IsSortOf};
 use pico_base::{Memory, Node, Sequence};
 use std::alloc::Global;
 
-#[cfg(test)]
-mod tests;
-
 /// An item of a node's log, with the stamp that the node gave it. The profile's own.
 #[derive(Debug, PartialEq, Eq, Drop)]
 pub struct Stamped<T> {

@@ -22,6 +22,3 @@ pub use piece::Piece;
 pub use receipt::Receipt;
 pub use rest::{Rest, settle};
 pub use stream::{pair, pair_to};
-
-#[cfg(test)]
-mod tests;

@@ -13,6 +13,3 @@ pub use names::{
 };
 pub use numbers::{number_front, signed_front};
 pub use texts::text_front;
-
-#[cfg(test)]
-mod tests;

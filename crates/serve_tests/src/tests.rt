@@ -1,0 +1,5 @@
+//! Each part over deeds, at its edges.
+mod bodies;
+mod caches;
+mod callers;
+mod handovers;

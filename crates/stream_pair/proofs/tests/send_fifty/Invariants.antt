@@ -1,5 +1,0 @@
-use Rattle.std.proofs.Common.{◌≡◌}
-use Rattle.stream_pair.proofs.tests.send_fifty.Given as goal
-
-abbrev pub invariant-loop-stamp : goal.invariant-loop-stamp
-invariant-loop-stamp g l = l.out.stream ≡ l.fn.out.stream

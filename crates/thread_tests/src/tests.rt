@@ -1,0 +1,4 @@
+//! On one thread and on several.
+mod journals;
+mod merges;
+mod streams;
