@@ -152,6 +152,7 @@ pub record AreTheirs (n : ℕ) (bytes : List ℕ) (ms : List Message) : Type 0 w
   pub within : bytes_of ms ≤ max_queue_bytes
   pub each : AllByRecursion IsSendable ms
 
+-- messages that were read, all of them and within a queue's room, are a queue's
 pub all_theirs : (n : ℕ) (bytes : List ℕ) (ms : List Message) → IsBytes bytes → all_messages_at n bytes ≡ Some ms
     → AreTheirs n bytes ms
 unfolding all_messages_at
