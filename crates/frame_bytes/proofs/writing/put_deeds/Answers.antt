@@ -1,5 +1,5 @@
 -- Each deed is within the limits, as all of them are.
-use Rattle.std.proofs.Common.{◌≡◌, ◌&&◌, true, nat_lt, List, [], ◌∷◌, length, IsTrue, subst, sym}
+use Rattle.std.proofs.Common.{◌≡◌, ◌&&◌, true, nat_lt, List, [], ◌∷◌, length, IsTrue}
 use Rattle.std.specs.List.{AllByRecursion, list_all}
 use Rattle.std.proofs.lemmas.Bool.{and_parts}
 use Rattle.rpc_frame.specs.declared.deed.PackedDeed.{PackedDeed}
