@@ -4,7 +4,7 @@ use Rattle.std.proofs.lemmas.Bool.{false≢true, and_parts}
 use Rattle.std.specs.List.{AllByRecursion, list_all}
 use Rattle.std.specs.Prelude.{if◌then◌else◌}
 use Rattle.frame_bytes.specs.Fields.{name_number}
-use Rattle.frame_bytes.specs.LimitTests.{is_deed, is_nonzero}
+use Rattle.frame_bytes.specs.Limits.{is_deed, is_nonzero}
 use Rattle.kernel_laws.proofs.Plain.{by_test, Of, of-next, of-map, of-test, of-some}
 use Rattle.kernel_laws.specs.Queues.{IsQueueWithinLimits}
 use Rattle.kernel_laws.specs.Sets.{IsSetWithinLimits}

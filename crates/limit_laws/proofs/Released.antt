@@ -5,7 +5,7 @@ use Rattle.std.specs.List.{AllByRecursion, list_all}
 use Rattle.std.specs.Option.{option_map}
 use Rattle.std.specs.Prelude.{count_by}
 use Rattle.frame_bytes.specs.Fields.{name_number}
-use Rattle.frame_bytes.specs.LimitTests.{is_frame, is_deed, is_nonzero}
+use Rattle.frame_bytes.specs.Limits.{is_frame, is_deed, is_nonzero}
 use Rattle.kernel_laws.proofs.Plain.{by_test, Of, of-map, of-some, of-next}
 use Rattle.kernel_model.specs.Script.{IsSoundScript}
 use Rattle.limit_laws.proofs.Carried.{exit-within}

@@ -1,7 +1,7 @@
 -- The leader routes a call within limits.
 use Rattle.std.proofs.Common.{◌≡◌, Option, Some, None, Result, Err, Ok, ℕ, Bool, true, false, not, ◌&&◌, nat_eq, refl, ◌≤◌, length, ◌||◌, ap}
 use Rattle.std.specs.Prelude.{nat_le}
-use Rattle.frame_bytes.specs.LimitTests.{is_frame}
+use Rattle.frame_bytes.specs.Limits.{is_frame}
 use Rattle.kernel_laws.proofs.Plain.{by_test, Of, of-map, of-some}
 use Rattle.kernel_laws.specs.Sets.{IsSetWithinLimits}
 use Rattle.kernel_model.specs.Queue.{empty_queue}

@@ -3,7 +3,7 @@ use Rattle.std.proofs.Common.{◌≡◌, ◌++◌, Option, Some, None, ℕ, true
 use Rattle.std.proofs.lemmas.Option.{slice_get_within}
 use Rattle.std.specs.List.{AllByRecursion}
 use Rattle.std.specs.Prelude.{if◌then◌else◌, slice_get}
-use Rattle.frame_bytes.specs.LimitTests.{is_frame, is_nonzero}
+use Rattle.frame_bytes.specs.Limits.{is_frame, is_nonzero}
 use Rattle.kernel_laws.proofs.Plain.{by_test, Of, not_some, of-map, of-some}
 use Rattle.kernel_model.specs.Fitting.{asks_again, set_variable, value_in}
 use Rattle.kernel_model.specs.Script.{IsSoundScript}

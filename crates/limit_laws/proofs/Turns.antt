@@ -5,7 +5,7 @@ use Rattle.std.specs.List.{AllByRecursion, list_any}
 use Rattle.std.specs.Option.{option_map, option_and_then}
 use Rattle.std.specs.Prelude.{fold}
 use Rattle.frame_bytes.specs.Fields.{name_number}
-use Rattle.frame_bytes.specs.LimitTests.{is_frame, is_deed, is_nonzero, are_vars, is_call, has_fields}
+use Rattle.frame_bytes.specs.Limits.{is_frame, is_deed, is_nonzero, are_vars, is_call, has_fields}
 use Rattle.kernel_laws.proofs.Plain.{by_test, Of, if-some, not_some, of-map, of-some, of-next, of-test}
 use Rattle.kernel_model.specs.Row.{Row, new_row}
 use Rattle.kernel_model.specs.Script.{Vars, IsSoundScript}
