@@ -36,6 +36,7 @@ half-is n h = grind (arith, nat_tests)
 text-passes : (bytes : List ℕ) → is_text bytes ≡ true → length bytes < 2 ^ 32
 text-passes bytes h = grind (arith, nat_tests)
 
+-- a text whose length has 4 bytes passes the test
 pub text-is : (bytes : List ℕ) → length bytes < 2 ^ 32 → is_text bytes ≡ true
 text-is bytes h = grind (arith, nat_tests)
 

@@ -183,8 +183,8 @@ pub fn is_within_limits(frame: &Frame) -> bool
     has_fields(frame) && body_len(frame) <= MAX_FRAME as usize
 }
 
-/// Whether the frame keeps to the limits with room for one byte more: so much does a call grow where the leader sends it
-/// on, since the frame names the caller's node then. Any frame can be tested, and it takes no memory.
+/// Whether the frame keeps to the limits with room for one byte more: so much does a call grow where the leader sends
+/// it on, since the frame names the caller's node then. Any frame can be tested, and it takes no memory.
 pub fn has_room_to_go_on(frame: &Frame) -> bool
     ensures { result ≡ has_fields frame.now && nat_lt (length (frame_body frame.now)) max_frame }
 {
