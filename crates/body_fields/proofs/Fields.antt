@@ -1,11 +1,11 @@
 -- A number that is read is the number that was written, and what was written is read again.
-use Rattle.std.proofs.Common.{◌≡◌, ℕ, suc, ◌+◌, ◌^◌, ◌<◌, ◌≤◌, Bool, true, false, cond, ltb, List, [], ◌∷◌, ◌++◌, length, get_or, take, drop, Option, Some, None, refl, sym, ap, subst, ◌∙◌, append_assoc, arith, inl, inr}
+use Rattle.std.proofs.Common.{◌≡◌, ℕ, suc, ◌+◌, ◌^◌, ◌<◌, ◌≤◌, Bool, true, false, cond, eqb, ltb, List, [], ◌∷◌, ◌++◌, length, get_or, take, drop, Option, Some, None, refl, sym, ap, subst, ◌∙◌, append_assoc, arith, inl, inr}
 use Rattle.std.specs.Int.{Width, w16, w32, byte_len, from_be_bytes, to_be_bytes}
-use Rattle.std.proofs.lemmas.Bool.{cases_lt, ltb-false, le-ltb}
-use Rattle.std.proofs.lemmas.List.{take_at, drop_at, take-append-drop, length-append, length-take, get_or-drop, get_or-take, get_or_past}
+use Rattle.std.proofs.lemmas.Bool.{cases_lt, eqb-true, ltb-false, le-ltb}
+use Rattle.std.proofs.lemmas.List.{append-nil, nil_from_length, take_at, drop_at, take-append-drop, length-append, length-take, get_or-drop, get_or-take, get_or_past}
 use Rattle.std.proofs.lemmas.Nat.{be_bytes_2, be_bytes_4, from_be_bytes-to_be_bytes_2, from_be_bytes-to_be_bytes_4}
 use Rattle.pico_base.specs.Options.{◌>>=◌}
-use Rattle.body_fields.specs.Fields.{byte_at, byte_upto, number_at, number_upto}
+use Rattle.body_fields.specs.Fields.{byte_at, byte_upto, number_at, number_upto, whole}
 
 -- each number is a byte
 abbrev pub IsBytes : List ℕ → Type 0
@@ -63,6 +63,18 @@ pub record Takes (bytes text rest : List ℕ) : Type 0 where
 pub Takes-then : (a x b y c : List ℕ) → Takes a x b → Takes b y c → Takes a (x ++ y) c
 Takes-then a x b y c p q =
     record { parts = p.parts ∙ ap (λ (t : List ℕ). x ++ t) q.parts ∙ sym (append_assoc x y c); rest_fits = q.rest_fits }
+
+-- what was taken is all of the bytes, if nothing is left of them
+pub Takes-all : (bytes text : List ℕ) → Takes bytes text [] → bytes ≡ text
+Takes-all bytes text t = t.parts ∙ append-nil text
+
+-- nothing is behind what was read whole
+pub whole_is : {A : Type 0} (read : Option (A × List ℕ)) (x : A) → whole read ≡ Some x → read ≡ Some (x, [])
+whole_is None x e = absurd cc
+whole_is {A} (Some y) x e =
+    let g = guard_ended (eqb (length y.1) 0) y.0 x e in
+    let nothing : y.1 ≡ [] = nil_from_length y.1 (eqb-true _ _ g.0) in
+    ap (λ (r : List ℕ). Some (y.0, r)) nothing ∙ ap (λ (v : A). Some (v, [])) g.1
 
 pub record IsWide (w : Width) (limit : ℕ) : Type 0 where
   pub len : (n : ℕ) → length (to_be_bytes w n) ≡ byte_len w

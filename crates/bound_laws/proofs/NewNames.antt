@@ -9,7 +9,7 @@ use Rattle.pico_base.specs.declared.reply.Errno.{Errno}
 use Rattle.pico_base.specs.declared.reply.Reply.TheVariants as replies
 use Rattle.pico_base.specs.declared.script.Script.{Script}
 use Rattle.rpc_frame.specs.declared.frame.Frame.TheVariants as frames
-use Rattle.kernel_laws.proofs.Plain.{Of, by_test}
+use Rattle.kernel_laws.proofs.Plain.{Of, by_test, of-map, of-next, of-some, of-test}
 use Rattle.kernel_model.specs.Fitting.{child_vars}
 use Rattle.kernel_model.specs.Queue.{empty_queue}
 use Rattle.kernel_model.specs.Row.{Row}
@@ -26,7 +26,7 @@ use Rattle.world_model.specs.Numbers.{Taken, fork_with, knows_any, make, make_ob
 use Rattle.world_model.specs.Step.{Step, carry_out, send, with_deeds, with_directory, with_node}
 use Rattle.world_model.specs.World.{IsNode}
 use Rattle.bound_laws.specs.Bounded.{NodeIsBounded, StepIsBounded}
-use Rattle.bound_laws.proofs.Parts.{of-map, of-next, of-some, of-test, place-name-names, put-rises, range-names}
+use Rattle.bound_laws.proofs.Parts.{place-name-names, put-rises, range-names}
 use Rattle.bound_laws.proofs.StepParts.{carry-out-bounded, first-is-node, send-bounded, send-first-bounded, with-deeds-bounded, with-directory-bounded, with-node-bounded, with-tables-bounded}
 
 -- a call that forks, forks a block of the script

@@ -1,8 +1,8 @@
 -- Changes of a node's tables, of the directory, and of the cache keep their bounds.
-use Rattle.std.proofs.Common.{◌≡◌, ℕ, zero, suc, ◌-◌, ◌/◌, Bool, true, false, not, ◌&&◌, cond, nat_eq, List, [], ◌∷◌, ◌++◌, filter, take, Option, Some, None, refl, ap, sym, subst, ◌∙◌, inl, inr}
-use Rattle.std.specs.Prelude.{if◌then◌else◌, slice_get}
+use Rattle.std.proofs.Common.{◌≡◌, ℕ, ◌-◌, ◌/◌, Bool, true, false, not, ◌&&◌, cond, nat_eq, List, [], ◌∷◌, ◌++◌, Option, Some, None, refl, ap, sym, subst, ◌∙◌, inl, inr}
+use Rattle.std.specs.Prelude.{slice_get}
 use Rattle.std.specs.List.{AllByRecursion}
-use Rattle.std.specs.Option.{option_and_then, option_map}
+use Rattle.std.specs.Option.{option_map}
 use Rattle.std.proofs.lemmas.Bool.{cases_eq}
 use Rattle.pico_base.specs.declared.numbers.Kind.{Kind}
 use Rattle.pico_base.specs.declared.numbers.Kind.TheVariants as kinds
@@ -12,7 +12,8 @@ use Rattle.pico_base.specs.declared.script.Script.{Script}
 use Rattle.number_maps.specs.Maps.{Numbered, get}
 use Rattle.number_maps.proofs.LookUps.{get-first, get-later}
 use Rattle.number_maps.proofs.Rising.{rising-filter, rising-nothing, rising-put}
-use Rattle.kernel_laws.proofs.Plain.{Of, by_test, from_some, not_some}
+use Rattle.kernel_laws.proofs.Plain.{by_test}
+use Rattle.kernel_laws.proofs.Lists.{all-at, all-both, all-filtered, all-taken}
 use Rattle.world_model.specs.World.{IsNode}
 use Rattle.entry_laws.proofs.Names.{get-put-other-name, get-put-same-name, name-cases}
 use Rattle.node_model.specs.declared.held.Held.{Held}
@@ -22,68 +23,6 @@ use Rattle.node_model.specs.Cache.{Cache, forget, learn, look, look_by, max_cach
 use Rattle.node_model.specs.Directory.{Directory, Place, At, Coming, arrive, bound_for, destination_of, held_for, hold, hold_at, is_known, items_of, maker, maker_in, maker_stays, place_name, place_of, place_without, places_without, range_size, recall, route, route_by, with_leaving, with_left, with_place, with_range}
 use Rattle.node_model.specs.Kinds.{Named, for_kind, get_named, is_same_name, kind_of, number_of, none_named, put_all, put_named, without_named}
 use Rattle.bound_laws.specs.Bounded.{AllRise, ItemIsOfNode, ItemsAreOfNodes, LeadsToNode, NamesNodes, PlaceNamesNodes}
-
--- ---- lists
-
--- what holds of all of each holds of all of both
-pub all-both : {A : Type 0} (P : A → Type 0) (xs ys : List A) → AllByRecursion P xs → AllByRecursion P ys
-    → AllByRecursion P (xs ++ ys)
-all-both P [] ys a c = c
-all-both P (x ∷ xs) ys a c = (a.0, all-both P xs ys a.1 c)
-
--- what holds of all of both holds of all of each
-pub all-parts : {A : Type 0} (P : A → Type 0) (xs ys : List A) → AllByRecursion P (xs ++ ys)
-    → AllByRecursion P xs × AllByRecursion P ys
-all-parts P [] ys all = (tt, all)
-all-parts P (x ∷ xs) ys all = let rest = all-parts P xs ys all.1 in ((all.0, rest.0), rest.1)
-
--- a filter keeps some
-pub all-filtered : {A : Type 0} (P : A → Type 0) (test : A → Bool) (xs : List A) → AllByRecursion P xs
-    → AllByRecursion P (filter test xs)
-all-filtered P test [] all = tt
-all-filtered P test (x ∷ xs) all = by (test x) all.0 (all-filtered P test xs all.1)
-  where
-    by : (b : Bool) → P x → AllByRecursion P (filter test xs)
-        → AllByRecursion P (cond b (x ∷ filter test xs) (filter test xs))
-    by true first rest = (first, rest)
-    by false first rest = rest
-
-all-taken : {A : Type 0} (P : A → Type 0) (n : ℕ) (xs : List A) → AllByRecursion P xs → AllByRecursion P (take n xs)
-all-taken P zero xs all = tt
-all-taken P (suc n) [] all = tt
-all-taken P (suc n) (x ∷ xs) all = (all.0, all-taken P n xs all.1)
-
--- and what holds of all holds of each
-pub all-at : {A : Type 0} (P : A → Type 0) (xs : List A) (i : ℕ) (x : A) → AllByRecursion P xs
-    → slice_get xs i ≡ Some x → P x
-all-at P [] i x all is = absurd (cc)
-all-at P (y ∷ ys) zero x all is = let same : y ≡ x = cc in subst P same all.0
-all-at P (y ∷ ys) (suc i) x all is = all-at P ys i x all.1 is
-
--- ---- options
-
--- what comes of an option, where each thing that it may have leads to what holds
-pub of-next : {A B : Type 0} (P : B → Type 0) (o : Option A) (f : A → Option B) → ((x : A) → o ≡ Some x → Of P (f x))
-    → Of P (option_and_then f o)
-of-next P None f h = tt
-of-next P (Some x) f h = h x refl
-
--- the same of a map
-pub of-map : {A B : Type 0} (P : B → Type 0) (o : Option A) (f : A → B) → ((x : A) → o ≡ Some x → P (f x))
-    → Of P (option_map f o)
-of-map P None f h = tt
-of-map P (Some x) f h = h x refl
-
--- the same of a test
-pub of-test : {A : Type 0} (P : A → Type 0) (b : Bool) (o : Option A) → (b ≡ true → Of P o)
-    → Of P (if b then o else None)
-of-test P true o h = h refl
-of-test P false o h = tt
-
--- and what holds of an option holds of what it has
-pub of-some : {A : Type 0} (P : A → Type 0) (o : Option A) (x : A) → Of P o → o ≡ Some x → P x
-of-some P None x h is = not_some x is
-of-some P (Some y) x h is = subst P (from_some y x is) h
 
 -- ---- maps from names
 

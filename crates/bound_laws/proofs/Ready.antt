@@ -42,11 +42,12 @@ use Rattle.route_laws.specs.Watching.{AreWatchesOf}
 use Rattle.bound_laws.specs.Bounded.{AllRise, FrameIsBounded, IsBounded, IsGood, ItemIsOfNode, ItemsAreOfNodes, NodeIsBounded, PlaceNamesNodes, StepIsBounded}
 use Rattle.bound_laws.proofs.Calls.{never-waits}
 use Rattle.bound_laws.proofs.Deeds.{deeds-are-read-in}
-use Rattle.bound_laws.proofs.Parts.{all-both, held-are-of-nodes, none-rises}
+use Rattle.bound_laws.proofs.Parts.{held-are-of-nodes, none-rises}
 use Rattle.bound_laws.proofs.Ranges.{few-ranges, more-ranges, some-blocks}
 use Rattle.bound_laws.proofs.Scripts.{sound-is-runnable}
 use Rattle.bound_laws.proofs.Released.{ended-is-bounded, routed-is-bounded}
 use Rattle.bound_laws.proofs.Worlds.{middle-is-bounded, without-is-bounded, without-is-shaped}
+use Rattle.kernel_laws.proofs.Lists.{all-both}
 
 -- what a rule may ask, in the words in which rules ask it
 pub record Ready (script : Script) (w : World) (hand : List Held) (b : Beside) : Type 0 where

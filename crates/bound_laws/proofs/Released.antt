@@ -10,7 +10,8 @@ use Rattle.rpc_frame.specs.declared.asked.Asked.{Asked}
 use Rattle.rpc_frame.specs.declared.deed.Parcel.{Parcel}
 use Rattle.rpc_frame.specs.declared.frame.Frame.TheVariants as frames
 use Rattle.number_maps.specs.Maps.{Numbered}
-use Rattle.kernel_laws.proofs.Plain.{Of, by_test}
+use Rattle.kernel_laws.proofs.Plain.{Of, by_test, of-map, of-next, of-some}
+use Rattle.kernel_laws.proofs.Lists.{all-both}
 use Rattle.node_model.specs.declared.held.Held.{Held}
 use Rattle.node_model.specs.declared.held.Held.TheVariants.{Request, Ending}
 use Rattle.node_model.specs.Bodies.{Body}
@@ -23,7 +24,7 @@ use Rattle.world_model.specs.Releases.{go_on_after, no_round, release, release_r
 use Rattle.world_model.specs.Step.{Step, send, with_deeds, with_directory}
 use Rattle.world_model.specs.World.{IsNode}
 use Rattle.bound_laws.specs.Bounded.{ItemIsOfNode, ItemsAreOfNodes, NamesNodes, PlaceNamesNodes, StepIsBounded}
-use Rattle.bound_laws.proofs.Parts.{all-both, arrive-names, held-are-of-nodes, of-map, of-next, of-some, put-all-rises}
+use Rattle.bound_laws.proofs.Parts.{arrive-names, held-are-of-nodes, put-all-rises}
 use Rattle.bound_laws.proofs.Routed.{hold-item-bounded, route-call-bounded}
 use Rattle.bound_laws.proofs.StepParts.{enter-bounded, send-bounded, with-deeds-bounded, with-directory-bounded, with-node-bounded}
 

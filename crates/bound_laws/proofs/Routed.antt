@@ -19,7 +19,7 @@ use Rattle.rpc_frame.specs.declared.frame.Frame.TheVariants as frames
 use Rattle.number_maps.specs.Maps.{get}
 use Rattle.number_maps.specs.Rising.{IsRising}
 use Rattle.number_maps.proofs.Rising.{rising-filter, rising-put}
-use Rattle.kernel_laws.proofs.Plain.{Of, by_test}
+use Rattle.kernel_laws.proofs.Plain.{Of, by_test, of-map, of-some}
 use Rattle.kernel_model.specs.Queue.{empty_queue}
 use Rattle.kernel_model.specs.SemaphoreSet.{SemaphoreSet, new_set}
 use Rattle.node_model.specs.declared.held.Held.{Held}
@@ -38,7 +38,7 @@ use Rattle.world_model.specs.Step.{Step, with_directory, with_leader, with_node}
 use Rattle.world_model.specs.World.{IsNode}
 use Rattle.bound_laws.specs.Bounded.{ItemIsOfNode, LeadsToNode, NamesNodes, NodeIsBounded, StepIsBounded}
 use Rattle.bound_laws.proofs.NewNames.{take-number-bounded}
-use Rattle.bound_laws.proofs.Parts.{RouteNamesNode, hold-names, of-map, of-some, place-name-names, put-rises, recall-names, route-is-node}
+use Rattle.bound_laws.proofs.Parts.{RouteNamesNode, hold-names, place-name-names, put-rises, recall-names, route-is-node}
 use Rattle.bound_laws.proofs.StepParts.{carry-out-bounded, send-bounded, serve-asked-bounded, serve-nobody-bounded, with-directory-bounded, with-node-bounded}
 
 module _ (script : Script) where

@@ -26,11 +26,12 @@ use Rattle.world_laws.specs.Invariant.{Holds}
 use Rattle.world_laws.specs.Sights.{frames_to}
 use Rattle.rule_laws.proofs.Opening.{opening-holds}
 use Rattle.bound_laws.specs.Bounded.{FrameIsBounded, IsBounded, IsShapedAndBounded, NamesNodes, NodeIsBounded, PlaceNamesNodes}
-use Rattle.bound_laws.proofs.Parts.{all-at, none-rises, put-rises}
+use Rattle.bound_laws.proofs.Parts.{none-rises, put-rises}
 use Rattle.bound_laws.proofs.Scripts.{sound-is-runnable}
 use Rattle.bound_laws.proofs.StepParts.{first-is-node, none-is}
 use Rattle.bound_laws.proofs.Watched.{none-watched}
 use Rattle.bound_laws.proofs.Worlds.{event-stays-bounded}
+use Rattle.kernel_laws.proofs.Lists.{all-at}
 
 -- ---- nothing is on its way
 

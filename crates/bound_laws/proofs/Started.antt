@@ -15,7 +15,7 @@ use Rattle.pico_base.specs.declared.reply.Reply.TheVariants as replies
 use Rattle.pico_base.specs.declared.script.Script.{Script}
 use Rattle.pico_base.specs.Home.{home_of}
 use Rattle.rpc_frame.specs.declared.frame.Frame.TheVariants as frames
-use Rattle.kernel_laws.proofs.Plain.{Of, by_test, from_some}
+use Rattle.kernel_laws.proofs.Plain.{Of, by_test, from_some, of-map, of-next, of-test}
 use Rattle.kernel_model.specs.Numbers.{is_u32}
 use Rattle.kernel_model.specs.Row.{Row}
 use Rattle.kernel_model.specs.Script.{IsSoundScript}
@@ -36,7 +36,7 @@ use Rattle.world_model.specs.Step.{Step, carry_out, enter, reply_here, send, ste
 use Rattle.world_model.specs.World.{IsNode}
 use Rattle.bound_laws.specs.Bounded.{LeadsToNode, NodeIsBounded, StepIsBounded}
 use Rattle.bound_laws.proofs.NewNames.{ForksNodes, make-bounded}
-use Rattle.bound_laws.proofs.Parts.{look-names, of-map, of-next, of-test, owner-is-node, put-all-rises}
+use Rattle.bound_laws.proofs.Parts.{look-names, owner-is-node, put-all-rises}
 use Rattle.bound_laws.proofs.Routed.{route-call-bounded}
 use Rattle.bound_laws.proofs.Scripts.{due-fork-is-behind}
 use Rattle.bound_laws.proofs.StepParts.{answered-none, carry-out-bounded, none-is, send-bounded, send-first-bounded, serve-asked-bounded, step-to-bounded, with-cache-bounded, with-caller-bounded, with-deeds-bounded, with-node-bounded, with-tables-bounded}

@@ -13,7 +13,8 @@ use Rattle.rpc_frame.specs.declared.asked.Asked.{Asked}
 use Rattle.rpc_frame.specs.declared.frame.Frame.{Frame}
 use Rattle.rpc_frame.specs.declared.frame.Frame.TheVariants as frames
 use Rattle.kernel_model.specs.Fitting.{asks_again, set_variable, value_in}
-use Rattle.kernel_laws.proofs.Plain.{Of, by_test, not_some}
+use Rattle.kernel_laws.proofs.Plain.{Of, by_test, not_some, of-map}
+use Rattle.kernel_laws.proofs.Lists.{all-both}
 use Rattle.kernel_model.specs.SemaphoreSet.{SemaphoreSet, new_set}
 use Rattle.migrate.specs.Watching.{Watching, move_at, run_with}
 use Rattle.node_model.specs.Bodies.{Body, Deeds}
@@ -32,7 +33,7 @@ use Rattle.world_model.specs.World.{IsNode}
 use Rattle.route_laws.specs.Watching.{AreWatchesOf}
 use Rattle.bound_laws.specs.Bounded.{AllRise, FrameNamesNodes, LeadsToNode, NamesNodes, NodeIsBounded, SendIsBounded, StepIsBounded}
 use Rattle.bound_laws.proofs.Watched.{read-watched, unwatched}
-use Rattle.bound_laws.proofs.Parts.{all-both, arrive-names, of-map, put-all-rises, without-rises}
+use Rattle.bound_laws.proofs.Parts.{arrive-names, put-all-rises, without-rises}
 
 -- ---- a call that is answered is under way no more
 

@@ -17,7 +17,7 @@ use Rattle.rpc_frame.specs.declared.deed.PackedDeed.{PackedDeed}
 use Rattle.rpc_frame.specs.declared.deed.Parcel.{Parcel}
 use Rattle.rpc_frame.specs.declared.frame.Frame.{Frame}
 use Rattle.rpc_frame.specs.declared.frame.Frame.TheVariants as frames
-use Rattle.kernel_laws.proofs.Plain.{Of, by_test}
+use Rattle.kernel_laws.proofs.Plain.{Of, by_test, of-map, of-next, of-test}
 use Rattle.kernel_model.specs.Script.{IsSoundScript, Vars}
 use Rattle.kernel_model.specs.Waiting.{is_waiting}
 use Rattle.node_model.specs.declared.held.Held.TheVariants.{Ending}
@@ -45,7 +45,7 @@ use Rattle.world_model.specs.Turn.{take_by_kind}
 use Rattle.world_model.specs.World.{IsNode}
 use Rattle.bound_laws.specs.Bounded.{FrameIsBounded, FrameNamesNodes, LeadsToNode, NamesNodes, NodeIsBounded, StepIsBounded}
 use Rattle.bound_laws.proofs.NewNames.{ForksNodes, make-bounded}
-use Rattle.bound_laws.proofs.Parts.{arrive-names, bound-is-node, forget-names, held-are-of-nodes, learn-names, leaving-names, left-names, none-rises, of-map, of-next, of-test, place-name-names, put-rises, range-names, without-rises}
+use Rattle.bound_laws.proofs.Parts.{arrive-names, bound-is-node, forget-names, held-are-of-nodes, learn-names, leaving-names, left-names, none-rises, place-name-names, put-rises, range-names, without-rises}
 use Rattle.bound_laws.proofs.Released.{exit-here-bounded, release-bounded}
 use Rattle.bound_laws.proofs.Routed.{recall-from-bounded, route-call-bounded}
 use Rattle.bound_laws.proofs.Started.{ask-bounded, run-bounded}

@@ -14,16 +14,17 @@ use Rattle.world_model.specs.Step.{Step, step_to}
 use Rattle.world_model.specs.Starting.{run}
 use Rattle.world_model.specs.Turn.{take_by_kind, take_frame}
 use Rattle.world_laws.proofs.ByRules.{taken-by-kind}
-use Rattle.world_model.specs.World.{IsNode, World, after_turn, is_enabled, node_count, runs_at, step, stream, takes_at, world_after}
+use Rattle.world_model.specs.World.{IsNode, World, after_turn, is_enabled, node_count, runs_at, step, stream, world_after}
 use Rattle.world_laws.specs.Invariant.{IsShaped}
 use Rattle.world_laws.specs.Sights.{node_of}
 use Rattle.world_laws.proofs.Changes.{Changes, frames_if, sent, taken}
 use Rattle.world_laws.proofs.Sends.{AreToNodes, frame_if, frames_with}
-use Rattle.world_laws.proofs.Steps.{Heads, changes-by-run, changes-by-take, frames-low, node-there, world_without}
+use Rattle.world_laws.proofs.Steps.{Heads, changes-by-run, changes-by-take, frames-low, node-there, turn-with, world_without}
 use Rattle.rule_laws.proofs.own.Enabled.{IsRun, enabled-runs}
 use Rattle.rule_laws.proofs.Enabled.{IsTaken, enabled-takes}
 use Rattle.bound_laws.specs.Bounded.{FrameIsBounded, IsBounded, IsShapedAndBounded, ItemsAreOfNodes, NodeIsBounded, SendIsBounded, StepIsBounded}
-use Rattle.bound_laws.proofs.Parts.{all-both, all-parts, of-some}
+use Rattle.kernel_laws.proofs.Plain.{of-some}
+use Rattle.kernel_laws.proofs.Lists.{all-both, all-parts}
 use Rattle.bound_laws.proofs.Turns.{run-turn-bounded, take-turn-bounded}
 
 module _ (script : Script) where
@@ -182,11 +183,7 @@ module _ (script : Script) where
         in let own : IsNode script p = record { low = h.low; high = h.high }
         in let after : after_turn (world_without w p q t.rest) p (take_frame script (node_of w p) q t.frame)
         ≡ Some next =
-        sym (ap (λ o. takes_at w p q o (stream w p q)) (node-there script w k.shape p h.low h.high)
-        ∙ ap (takes_at w p q (Some (node_of w p))) h.head
-        ∙ ap (λ (x : Script). after_turn (world_without w p q t.rest) p (take_frame x (node_of w p) q t.frame))
-        k.shape.of_script)
-        ∙ steps
+        sym (turn-with take_frame script w p q t.frame t.rest k.shape h) ∙ steps
         in let found =
         after-some (world_without w p q t.rest) next p (take_frame script (node_of w p) q t.frame) after
         in let b : StepIsBounded script found.0 =

@@ -3,14 +3,13 @@ use Rattle.std.proofs.Common.{◌≡◌, ◌≢◌, ℕ, Bool, true, false, not,
 use Rattle.std.specs.Prelude.{if◌then◌else◌}
 use Rattle.std.specs.Option.{option_map, option_map_or, option_and_then}
 use Rattle.std.specs.Ordering.{eq_by_cmp}
-use Rattle.std.specs.List.{filter}
 use Rattle.std.proofs.lemmas.Bool.{cases_eq}
 use Rattle.std.proofs.lemmas.Cmp.{eq_by_cmp_equiv, nat_cmp_total}
 use Rattle.std.proofs.lemmas.Map.Entries.{lookup-filter-values, option_filter}
 use Rattle.std.proofs.lemmas.Map.Keys.{IsDistinct-from_sorted}
 use Rattle.pico_base.specs.declared.numbers.Name.TheVariants.{Sem}
 use Rattle.key_table.specs.declared.Bound.{Bound}
-use Rattle.number_maps.specs.Maps.{Numbered, get, put}
+use Rattle.number_maps.specs.Maps.{Numbered, get, put, without_value}
 use Rattle.number_maps.specs.Rising.{IsRising}
 use Rattle.number_maps.proofs.LookUps.{get-put-same, get-put-other}
 use Rattle.kernel_model.specs.Kernel.{Kernel}
@@ -34,7 +33,7 @@ filtered-is f id (Some v) = kept-is f id v (nat_eq (f v) id) refl
 
 -- the values that don't lead to this identifier stay
 pub get-filtered : {V : Type 0} (f : V → ℕ) (id : ℕ) (m : Numbered V) (key : ℕ) → IsRising m
-    → get (filter (λ e. not (nat_eq (f e.1) id)) m) key
+    → get (without_value f m id) key
     ≡ option_and_then (λ v. if nat_eq (f v) id then None else Some v) (get m key)
 get-filtered f id m key rises =
     lookup-filter-values {eq = eq_by_cmp nat_cmp} (eq_by_cmp_equiv nat_cmp_total) (λ v. not (nat_eq (f v) id)) key m

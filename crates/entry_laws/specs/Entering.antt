@@ -1,7 +1,6 @@
 -- What an entry of the history comes to: a call of a process is the kernel's transition, with this reply, and what that
 -- leaves of bodies, of used numbers, of keys, and of what other processes may do.
-use Rattle.std.specs.Prelude.{◌≡◌, ◌≢◌, ◌⊎◌, ℕ, Bool, true, false, not, List, nat_eq, if◌then◌else◌, Option, Some, None, Contains}
-use Rattle.std.specs.List.{filter}
+use Rattle.std.specs.Prelude.{◌≡◌, ◌≢◌, ◌⊎◌, ℕ, Bool, true, false, List, nat_eq, if◌then◌else◌, Option, Some, None, Contains}
 use Rattle.std.specs.Option.{option_map, option_and_then}
 use Rattle.pico_base.specs.declared.call.Call.{Call}
 use Rattle.pico_base.specs.declared.call.Call.TheVariants as calls
@@ -15,7 +14,7 @@ use Rattle.pico_base.specs.declared.reply.Reply.TheVariants as replies
 use Rattle.pico_base.specs.declared.script.Script.{Script}
 use Rattle.pico_base.specs.declared.signal.Sig.{Sig}
 use Rattle.key_table.specs.declared.Bound.{Bound}
-use Rattle.number_maps.specs.Maps.{Numbered, get, is_used}
+use Rattle.number_maps.specs.Maps.{Numbered, get, is_used, without_value}
 use Rattle.number_maps.specs.Rising.{IsRising}
 use Rattle.kernel_model.specs.Row.{Alive, Family, Row, ended_child, lists, without_ended}
 use Rattle.kernel_model.specs.Kernel.{Kernel, Process, living_at, opening}
@@ -123,7 +122,7 @@ unless_removed (Some id) found = option_and_then (other_than id) found
 -- the table without the keys of this identifier
 abbrev pub without_keys_of : Option ℕ → Numbered Bound → Numbered Bound
 without_keys_of None keys = keys
-without_keys_of (Some id) keys = filter (λ e. not (nat_eq e.1.id id)) keys
+without_keys_of (Some id) keys = without_value (λ bound. bound.id) keys id
 
 -- the keys are as before, and so are the sizes of the sets that they lead to
 pub record KeepsKeys (k next : Kernel) : Type 0 where

@@ -4,19 +4,18 @@ use Rattle.std.specs.Int.{w32, to_be_bytes}
 use Rattle.std.specs.List.{flat_map, AllByRecursion}
 use Rattle.std.specs.Option.{option_map}
 use Rattle.std.proofs.lemmas.Bool.Decides.{nat_tests}
-use Rattle.std.proofs.lemmas.List.{append-nil, length-append, length-map}
+use Rattle.std.proofs.lemmas.List.{length-append, length-map}
 use Rattle.std.proofs.lemmas.List.Elements.{All-from_recursion, recursion_from_All}
 use Rattle.pico_base.specs.declared.reply.Ending.{Ending}
 use Rattle.pico_base.specs.declared.reply.Ending.TheVariants.{Exited, Killed}
 use Rattle.pico_base.specs.declared.signal.Sig.{Sig}
 use Rattle.pico_base.specs.declared.signal.Sig.TheVariants.{Hup, Int, Quit, Kill, Usr1, Usr2, Pipe, Alrm, Term, Chld}
-use Rattle.body_fields.specs.Fields.{byte_at, byte_upto, number_at}
-use Rattle.body_fields.proofs.Fields.{IsBytes, bind_some, guard_ended, some_is, refused, Takes, Takes-then, wide32, byte_takes, byte_upto_takes, byte_upto_again, number_takes, number_again}
-use Rattle.body_fields.proofs.Many.{many_takes, many_again}
+use Rattle.body_fields.specs.Fields.{byte_at, byte_upto, number_at, whole}
+use Rattle.body_fields.proofs.Fields.{IsBytes, bind_some, some_is, refused, Takes, Takes-then, wide32, byte_takes, byte_upto_takes, byte_upto_again, number_takes, number_again}
+use Rattle.body_fields.proofs.Many.{all_again, all_taken, many_again, many_takes}
 use Rattle.kernel_model.specs.Row.{Family, EndedChild, ended_child}
 use Rattle.pico_base.specs.Options.{◌>>=◌}
 use Rattle.pico_base.specs.Signal.{all_signals, signal_from, signal_number}
-use Rattle.fork_wait.proofs.Loops.{ended_repeat, numbers_repeat}
 use Rattle.fork_wait.specs.Children.{AreChildren, children}
 use Rattle.fork_wait.specs.Reading.{all_ended_at, ended_at, ending_from, family_at, max_children, numbers_at}
 use Rattle.fork_wait.specs.Spelling.{HasBytes, ended_bytes, ending_bytes, family_bytes}
@@ -125,64 +124,52 @@ Small-join [] [] p q = tt
 Small-join [] (e ∷ es) p q = (q.0, Small-join [] es tt q.1)
 Small-join (x ∷ xs) es p q = (p.0, Small-join xs es p.1 q)
 
-nothing_left : (bytes : List ℕ) → eqb (length bytes) 0 ≡ true → bytes ≡ []
-nothing_left [] e = refl
-nothing_left (b ∷ bytes) e = absurd (omega (arith, is_number (length (b ∷ bytes)) 0 e))
-
-family_parts : (bytes living_rest numbers_rest ended_rest left : List ℕ) (f : Family) (count more : ℕ)
+family_parts : (bytes living_rest numbers_rest ended_rest : List ℕ) (f : Family) (count more : ℕ)
     → Takes bytes (count ∷ []) living_rest → Takes living_rest (flat_map (to_be_bytes w32) f.living) numbers_rest
-    → Takes numbers_rest (more ∷ []) ended_rest → Takes ended_rest (flat_map ended_bytes f.ended) left
-    → length f.living ≡ count → length f.ended ≡ more → left ≡ [] → bytes ≡ family_bytes f
+    → Takes numbers_rest (more ∷ []) ended_rest → ended_rest ≡ flat_map ended_bytes f.ended
+    → length f.living ≡ count → length f.ended ≡ more → bytes ≡ family_bytes f
 unfolding family_bytes
-family_parts bytes living_rest numbers_rest ended_rest left f count more t1 t2 t3 t4 is_count is_more nil =
+family_parts bytes living_rest numbers_rest ended_rest f count more t1 t2 t3 all is_count is_more =
     t1.parts
     ∙ ap (λ (r : List ℕ). count ∷ r)
     (t2.parts ∙ ap (λ (r : List ℕ). flat_map (to_be_bytes w32) f.living ++ r)
-    (t3.parts ∙ ap (λ (r : List ℕ). more ∷ r)
-    (t4.parts ∙ ap (λ (r : List ℕ). flat_map ended_bytes f.ended ++ r) nil
-    ∙ append-nil (flat_map ended_bytes f.ended))))
+    (t3.parts ∙ ap (λ (r : List ℕ). more ∷ r) all))
     ∙ ap (λ (k : ℕ). k ∷ flat_map (to_be_bytes w32) f.living ++ more ∷ flat_map ended_bytes f.ended) (sym is_count)
     ∙ ap (λ (k : ℕ). length f.living ∷ flat_map (to_be_bytes w32) f.living ++ k ∷ flat_map ended_bytes f.ended)
     (sym is_more)
 
 pub family_takes : (bytes : List ℕ) (f : Family) → IsBytes bytes → family_at bytes ≡ Some f → (bytes ≡ family_bytes f)
     × AllByRecursion Small (children f)
-unfolding family_at
+unfolding family_at numbers_at all_ended_at
 family_takes bytes f fits e =
     let count = bind_some (byte_upto max_children bytes) _ f e in
     let numbers = bind_some (numbers_at count.0.0 count.0.1) _ f count.2 in
     let more = bind_some (byte_upto max_children numbers.0.1) _ f numbers.2 in
-    let endings = bind_some (all_ended_at more.0.0 more.0.1) _ f more.2 in
-    let g = guard_ended (eqb (length endings.0.1) 0)
-    (record { living = numbers.0.0; ended = endings.0.0 }) f endings.2 in
+    let endings = bind_some (whole (all_ended_at more.0.0 more.0.1)) _ f more.2 in
     let t1 = (byte_upto_takes max_children bytes count.0 fits count.1).0 in
-    let t2 = many_takes numbers_repeat (to_be_bytes w32) Small
+    let t2 = many_takes (number_at w32) (to_be_bytes w32) Small
     (number_takes w32 (2 ^ 32) wide32) count.0.0 count.0.1 numbers.0 t1.rest_fits numbers.1 in
     let t3 = (byte_upto_takes max_children numbers.0.1 more.0 t2.0.rest_fits more.1).0 in
-    let t4 = many_takes ended_repeat ended_bytes
+    let t4 = all_taken ended_at ended_bytes
     (λ (c : EndedChild). Small c.pid) ended_takes more.0.0 more.0.1 endings.0 t3.rest_fits endings.1 in
-    subst (λ (f : Family). (bytes ≡ family_bytes f) × AllByRecursion Small (children f)) {x =
-    record { living = numbers.0.0; ended = endings.0.0 }} g.1 (
-      family_parts bytes count.0.1 numbers.0.1 more.0.1 endings.0.1
-          (record { living = numbers.0.0; ended = endings.0.0 }) count.0.0 more.0.0 t1 t2.0 t3 t4.0 t2.1 t4.1
-          (nothing_left endings.0.1 g.0),
-      Small-join numbers.0.0 endings.0.0 t2.2 t4.2,
+    subst (λ (f : Family). (bytes ≡ family_bytes f) × AllByRecursion Small (children f))
+    (some_is (record { living = numbers.0.0; ended = endings.0 }) f endings.2) (
+      family_parts bytes count.0.1 numbers.0.1 more.0.1
+          (record { living = numbers.0.0; ended = endings.0 }) count.0.0 more.0.0 t1 t2.0 t3 t4.0 t2.1 t4.1,
+      Small-join numbers.0.0 endings.0 t2.2 t4.2,
     )
 
 pub family_again : (f : Family) → length f.living ≤ max_children → length f.ended ≤ max_children
     → AllByRecursion Small (children f) → family_at (family_bytes f) ≡ Some f
-unfolding family_at family_bytes
+unfolding family_at numbers_at all_ended_at family_bytes
 family_again f few few' small =
     let parts = Small-split f.living f.ended small in
     let count = byte_upto_again max_children (length f.living)
     (flat_map (to_be_bytes w32) f.living ++ length f.ended ∷ flat_map ended_bytes f.ended) few in
-    let numbers = many_again numbers_repeat (to_be_bytes w32) Small (number_again w32 (2 ^ 32) wide32) f.living
+    let numbers = many_again (number_at w32) (to_be_bytes w32) Small (number_again w32 (2 ^ 32) wide32) f.living
     (length f.ended ∷ flat_map ended_bytes f.ended) parts.0 in
     let more = byte_upto_again max_children (length f.ended) (flat_map ended_bytes f.ended) few' in
-    let endings : all_ended_at (length f.ended) (flat_map ended_bytes f.ended) ≡ Some (f.ended, []) =
-    ap (all_ended_at (length f.ended)) (sym (append-nil (flat_map ended_bytes f.ended)))
-    ∙ many_again ended_repeat ended_bytes (λ (c : EndedChild). Small c.pid) child_again f.ended [] parts.1
-    in
+    let endings = all_again ended_at ended_bytes (λ (c : EndedChild). Small c.pid) child_again f.ended parts.1 in
     rw (count, numbers, more, endings) refl
 
 -- ---- what the bytes of a family say

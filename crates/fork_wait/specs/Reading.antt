@@ -1,10 +1,10 @@
 -- Reading a family from left to right.
-use Rattle.std.specs.Prelude.{ℕ, zero, suc, List, [], ◌∷◌, length, Option, Some, None, ◌==◌, if◌then◌else◌}
+use Rattle.std.specs.Prelude.{ℕ, List, Option, Some, None, ◌==◌, if◌then◌else◌}
 use Rattle.std.specs.Int.{w32}
 use Rattle.std.specs.Option.{option_map}
 use Rattle.pico_base.specs.declared.reply.Ending.{Ending}
 use Rattle.pico_base.specs.declared.reply.Ending.TheVariants.{Exited, Killed}
-use Rattle.body_fields.specs.Fields.{byte_at, byte_upto, number_at}
+use Rattle.body_fields.specs.Fields.{byte_at, byte_upto, many_at, number_at, whole}
 use Rattle.kernel_model.specs.Row.{Family, EndedChild, ended_child}
 use Rattle.pico_base.specs.Options.{◌>>=◌}
 use Rattle.pico_base.specs.Signal.{signal_from}
@@ -22,18 +22,10 @@ ended_at bytes = do
   Some (ended_child pid.0 ending, value.1)
 
 unfoldable pub numbers_at : ℕ → List ℕ → Option (List ℕ × List ℕ)
-numbers_at zero bytes = Some ([], bytes)
-numbers_at (suc n) bytes = do
-  first ← number_at w32 bytes
-  others ← numbers_at n first.1
-  Some (first.0 ∷ others.0, others.1)
+numbers_at count bytes = many_at (number_at w32) count bytes
 
 unfoldable pub all_ended_at : ℕ → List ℕ → Option (List EndedChild × List ℕ)
-all_ended_at zero bytes = Some ([], bytes)
-all_ended_at (suc n) bytes = do
-  first ← ended_at bytes
-  others ← all_ended_at n first.1
-  Some (first.0 ∷ others.0, others.1)
+all_ended_at count bytes = many_at ended_at count bytes
 
 -- how many children a list has at most
 abbrev pub max_children : ℕ
@@ -45,5 +37,5 @@ family_at bytes = do
   living ← byte_upto max_children bytes
   numbers ← numbers_at living.0 living.1
   ended ← byte_upto max_children numbers.1
-  endings ← all_ended_at ended.0 ended.1
-  if length endings.1 == 0 then Some (record { living = numbers.0; ended = endings.0 }) else None
+  endings ← whole (all_ended_at ended.0 ended.1)
+  Some (record { living = numbers.0; ended = endings })

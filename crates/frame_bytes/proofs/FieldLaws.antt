@@ -3,7 +3,7 @@ use Rattle.std.proofs.Common.{◌≡◌, ℕ, ◌^◌, ◌<◌, ◌≤◌, Bool,
 use Rattle.std.specs.Prelude.{nat_lt, FitsSigned, find}
 use Rattle.std.specs.Int.{w16, w32, cast_signed, cast_unsigned}
 use Rattle.std.proofs.Math.Facts.{sfits_to_z, Fits-of_z}
-use Rattle.std.proofs.lemmas.Bool.{ltb-false, le-ltb}
+use Rattle.std.proofs.lemmas.Bool.{ltb-false, le-ltb, and_parts, and_from, false≢true}
 use Rattle.std.proofs.lemmas.Bool.Decides.{nat_tests}
 use Rattle.std.proofs.lemmas.Int.{to_z-of_z, of_z-to_z}
 use Rattle.std.proofs.lemmas.List.{take_at, drop_at, take-append-drop, length-append, length-take}
@@ -21,8 +21,24 @@ use Rattle.pico_base.specs.ErrorNumber.{all_errors, error_number}
 use Rattle.pico_base.specs.Signal.{all_signals, signal_number}
 use Rattle.body_fields.proofs.Fields.{IsBytes, IsBytes-drop, bind_some, guard_some, some_is, Takes, Takes-then, wide16, wide32, number_takes, number_again}
 use Rattle.frame_bytes.specs.Readers.{Reader, byte_at}
-use Rattle.frame_bytes.specs.Fields.{IsWord, IsHalf, IsPositive, IsCount, IsNode, IsSigArg, IsName, IsText, is_node, word, half, signed, text, flag_byte, all_flags, sigarg_byte, all_sigargs, kind_byte, all_kinds, name_of, name_field, word_at, half_at, positive_at, count_at, signed_at, node_at, flag_at, sig_at, sigarg_at, errno_at, kind_at, name_at, text_at}
+use Rattle.frame_bytes.specs.Fields.{IsWord, IsHalf, IsNode, is_node, name_number, word, half, signed, text, flag_byte, all_flags, sigarg_byte, all_sigargs, kind_byte, all_kinds, name_of, name_field, word_at, half_at, positive_at, count_at, signed_at, node_at, flag_at, sig_at, sigarg_at, errno_at, kind_at, name_at, text_at}
+use Rattle.frame_bytes.specs.Limits.{is_nonzero, is_text, is_half, is_count, is_sigarg}
 use Rattle.frame_bytes.proofs.Inverse.{Inverse, Field, Passes, byte-inverse, passing-inverse, renamed, one_of-inverse, Reads, two-takes, two-again}
+
+-- ---- what the limits of counts say
+
+half-passes : (n : ℕ) → is_half n ≡ true → IsHalf n
+half-passes n h = grind (arith, nat_tests)
+
+half-is : (n : ℕ) → IsHalf n → is_half n ≡ true
+half-is n h = grind (arith, nat_tests)
+
+text-passes : (bytes : List ℕ) → is_text bytes ≡ true → length bytes < 2 ^ 32
+text-passes bytes h = grind (arith, nat_tests)
+
+-- a text whose length has 4 bytes passes the test
+pub text-is : (bytes : List ℕ) → length bytes < 2 ^ 32 → is_text bytes ≡ true
+text-is bytes h = grind (arith, nat_tests)
 
 -- ---- numbers
 
@@ -40,20 +56,30 @@ half-inverse = record {
   again = λ n rest fits. number_again w16 (2 ^ 16) wide16 n rest fits;
 }
 
+-- a number of 4 bytes that is at least 1
+abbrev pub IsPositive : ℕ → Type 0
+IsPositive n = IsWord n × (is_nonzero n ≡ true)
+
 pub positive-inverse : Inverse ℕ IsPositive word positive_at
 unfolding positive_at
 positive-inverse =
     renamed ℕ (Passes ℕ IsWord (nat_lt 0)) IsPositive word positive_at
-    (λ n p. record { fits = p.fits; least = p.passes }) (λ n p. record { fits = p.fits; passes = p.least })
+    (λ n p. (p.fits, p.passes)) (λ n p. record { fits = p.0; passes = p.1 })
     (passing-inverse ℕ IsWord word word_at (nat_lt 0) word-inverse)
 
--- so is a count of 2 bytes that is at least 1
-pub count-inverse : Inverse ℕ IsCount half count_at
+-- a count that is within the limits is read as it is spelled
+pub values-count-inverse : Inverse ℕ (λ n. is_half n ≡ true) half half_at
+values-count-inverse =
+    renamed ℕ IsHalf (λ n. is_half n ≡ true) half half_at (λ n p. half-is n p) (λ n p. half-passes n p) half-inverse
+
+-- so is one that is at least 1
+pub count-inverse : Inverse ℕ (λ n. is_count n ≡ true) half count_at
 unfolding count_at
 count-inverse =
-    renamed ℕ (Passes ℕ IsHalf (nat_lt 0)) IsCount half count_at
-    (λ n p. record { fits = p.fits; least = p.passes }) (λ n p. record { fits = p.fits; passes = p.least })
-    (passing-inverse ℕ IsHalf half half_at (nat_lt 0) half-inverse)
+    renamed ℕ (Passes ℕ (λ n. is_half n ≡ true) (nat_lt 0)) (λ n. is_count n ≡ true) half count_at
+    (λ n p. and_from (is_half n) (nat_lt 0 n) p.fits p.passes)
+    (λ n p. let t = and_parts (is_half n) (nat_lt 0 n) p in record { fits = t.0; passes = t.1 })
+    (passing-inverse ℕ (λ n. is_half n ≡ true) half half_at (nat_lt 0) values-count-inverse)
 
 -- a node fits its byte
 node-byte : (n : ℕ) → is_node n ≡ true → n < 256
@@ -119,7 +145,7 @@ sig-inverse =
     one_of-inverse Sig (λ g. Unit {0}) signal_number all_signals
     (tt, (tt, (tt, (tt, (tt, (tt, (tt, (tt, (tt, (tt, tt)))))))))) sig-there
 
-sigarg-there : (a : SigArg) → IsSigArg a → IsThere SigArg sigarg_byte all_sigargs a
+sigarg-there : (a : SigArg) → is_sigarg a ≡ true → IsThere SigArg sigarg_byte all_sigargs a
 sigarg-there Zero fits = refl
 sigarg-there (Is Hup) fits = refl
 sigarg-there (Is Int) fits = refl
@@ -131,13 +157,13 @@ sigarg-there (Is Pipe) fits = refl
 sigarg-there (Is Alrm) fits = refl
 sigarg-there (Is Term) fits = refl
 sigarg-there (Is Chld) fits = refl
-sigarg-there Bad fits = absurd fits
+sigarg-there Bad fits = absurd (false≢true fits)
 
-pub sigarg-inverse : Inverse SigArg IsSigArg (λ a. sigarg_byte a ∷ []) sigarg_at
+pub sigarg-inverse : Inverse SigArg (λ a. is_sigarg a ≡ true) (λ a. sigarg_byte a ∷ []) sigarg_at
 unfolding sigarg_at
 sigarg-inverse =
-    one_of-inverse SigArg IsSigArg sigarg_byte all_sigargs
-    (tt, (tt, (tt, (tt, (tt, (tt, (tt, (tt, (tt, (tt, (tt, tt))))))))))) sigarg-there
+    one_of-inverse SigArg (λ a. is_sigarg a ≡ true) sigarg_byte all_sigargs
+    (refl, (refl, (refl, (refl, (refl, (refl, (refl, (refl, (refl, (refl, (refl, tt))))))))))) sigarg-there
 
 errno-there : (e : Errno) → Unit {0} → IsThere Errno error_number all_errors e
 errno-there Esrch fits = refl
@@ -171,11 +197,11 @@ kind-inverse = one_of-inverse Kind (λ k. Unit {0}) kind_byte all_kinds (tt, (tt
 -- ---- texts
 
 -- a text is read as it is spelled: its length, and so many bytes
-pub text-inverse : Inverse (List ℕ) IsText text text_at
+pub text-inverse : Inverse (List ℕ) (λ bytes. is_text bytes ≡ true) text text_at
 unfolding text_at
 text-inverse = record { takes = take-text; again = give } where
   take-text : (bytes : List ℕ) (x : List ℕ × List ℕ) → IsBytes bytes → text_at bytes ≡ Some x
-      → Takes bytes (text x.0) x.1 × IsText x.0
+      → Takes bytes (text x.0) x.1 × (is_text x.0 ≡ true)
   take-text bytes x fits e =
       let b = bind_some (word_at bytes) (λ n. cond (ltb (length n.1) n.0) None (Some (take n.0 n.1, drop n.0 n.1))) x e
       in let n = b.0
@@ -188,11 +214,13 @@ text-inverse = record { takes = take-text; again = give } where
       in let both = Takes-then bytes (word n.0) n.1 (take n.0 n.1) (drop n.0 n.1) t.0 second
       in let whole : Takes bytes (text (take n.0 n.1)) (drop n.0 n.1) =
       subst (λ (k : ℕ). Takes bytes (word k ++ take n.0 n.1) (drop n.0 n.1)) (sym len) both
-      in subst (λ (p : List ℕ × List ℕ). Takes bytes (text p.0) p.1 × IsText p.0) g.1 (whole, omega (arith, t.1))
+      in subst (λ (p : List ℕ × List ℕ). Takes bytes (text p.0) p.1 × (is_text p.0 ≡ true)) g.1
+      (whole, text-is (take n.0 n.1) (omega (arith, t.1, len)))
 
-  give : (bytes rest : List ℕ) → IsText bytes → text_at (text bytes ++ rest) ≡ Some (bytes, rest)
-  give bytes rest lt =
-      let long : ltb (length (bytes ++ rest)) (length bytes) ≡ false =
+  give : (bytes rest : List ℕ) → is_text bytes ≡ true → text_at (text bytes ++ rest) ≡ Some (bytes, rest)
+  give bytes rest fits =
+      let lt = text-passes bytes fits
+      in let long : ltb (length (bytes ++ rest)) (length bytes) ≡ false =
       le-ltb _ _ (omega (arith, length-append bytes rest))
       in rw (
         word-inverse.again (length bytes) (bytes ++ rest) lt,
@@ -233,7 +261,12 @@ sig-field = record { Fits = λ g. Unit {0}; spell = λ g. signal_number g ∷ []
 
 -- the signal of a kill, which may be 0 or none
 abbrev pub sigarg-field : Field SigArg
-sigarg-field = record { Fits = IsSigArg; spell = λ a. sigarg_byte a ∷ []; read = sigarg_at; inverse = sigarg-inverse }
+sigarg-field = record {
+  Fits = λ a. is_sigarg a ≡ true;
+  spell = λ a. sigarg_byte a ∷ [];
+  read = sigarg_at;
+  inverse = sigarg-inverse;
+}
 
 -- an error
 abbrev pub errno-field : Field Errno
@@ -251,13 +284,17 @@ kind-field = record { Fits = λ k. Unit {0}; spell = λ k. kind_byte k ∷ []; r
 
 -- a text
 abbrev pub text-field : Field (List ℕ)
-text-field = record { Fits = IsText; spell = text; read = text_at; inverse = text-inverse }
+text-field = record { Fits = λ bytes. is_text bytes ≡ true; spell = text; read = text_at; inverse = text-inverse }
 
 -- what is read with nothing before it takes its bytes
 pub whole-inverse : (Z : Type 0) (Fits : Z → Type 0) (spell : Z → List ℕ) (read : Reader Z) → Reads Z Fits spell read []
     → ((z : Z) (rest : List ℕ) → Fits z → read (spell z ++ rest) ≡ Some (z, rest)) → Inverse Z Fits spell read
 whole-inverse Z Fits spell read reads again =
     record { takes = λ bytes x fits e. let b = reads bytes x fits e in (b.took, b.fits); again = again }
+
+-- a name that has a spelling
+abbrev pub IsName : Name → Type 0
+IsName name = IsPositive (name_number name)
 
 name-same : (k : Kind) (n : ℕ) → name_field (name_of k n) ≡ kind_byte k ∷ word n
 name-same kinds.Proc n = refl

@@ -9,11 +9,12 @@ use Rattle.rpc_frame.specs.declared.frame.Frame.{Frame}
 use Rattle.body_fields.specs.Fields.{number_at}
 use Rattle.body_fields.proofs.Fields.{IsBytes, Takes}
 use Rattle.frame_bytes.specs.Fields.{IsWord, word, text}
-use Rattle.frame_bytes.specs.Frames.{IsFrame, frame_body, frame_bytes, max_frame, whole_at}
+use Rattle.frame_bytes.specs.Frames.{frame_body, frame_bytes, max_frame, whole_at}
+use Rattle.frame_bytes.specs.Ranges.{IsFrame}
 use Rattle.frame_bytes.specs.Streams.{IsPartial, IsTooLong, IsNoFrame, Begins}
 use Rattle.frame_bytes.specs.Splitting.{Front}
 use Rattle.frame_bytes.proofs.FieldLaws.{word-inverse}
-use Rattle.frame_bytes.proofs.FrameLaws.{whole-takes, whole-again}
+use Rattle.frame_bytes.proofs.FrameLaws.{frame-is, whole-takes, whole-again}
 
 none-some : (o : Option Frame) (f : Frame) → o ≡ None → o ≡ Some f → ⊥
 none-some None f h e = absurd cc
@@ -72,7 +73,7 @@ module _ (bytes : List ℕ) (len : ℕ) (rest : List ℕ) (fits : IsBytes bytes)
         more = drop len rest;
         spelled = parts long;
         short = omega (arith, size, short);
-        none = λ f h e. none-some (whole_at (take len rest)) f none (ap whole_at e ∙ whole-again f h.fields);
+        none = λ f h e. none-some (whole_at (take len rest)) f none (ap whole_at e ∙ whole-again f h);
       }
 
   pub is-whole : (f : Frame) → len ≤ max_frame → len ≤ length rest → whole_at (take len rest) ≡ Some f
@@ -90,7 +91,7 @@ module _ (bytes : List ℕ) (len : ℕ) (rest : List ℕ) (fits : IsBytes bytes)
       in let total : length bytes ≡ length (frame_bytes f) + length (drop len rest) =
       ap length spelled ∙ length-append (frame_bytes f) (drop len rest)
       in record {
-        fits = record { fields = t.1; short = omega (arith, same, short) };
+        fits = frame-is f t.1 (omega (arith, same, short));
         spelled = spelled ∙ ap (λ (y : List ℕ). frame_bytes f ++ y) (sym behind);
         within = omega (arith, total, count);
         long = omega arith;

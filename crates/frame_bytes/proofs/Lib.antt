@@ -6,5 +6,4 @@ pub mod Loop
 pub mod StreamLaws
 pub mod FirstLaws
 pub mod Appending
-pub mod LimitTestLaws
 pub mod LengthLaws

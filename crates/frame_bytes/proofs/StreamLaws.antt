@@ -1,5 +1,5 @@
 -- A stream has one reading, and the frames that come of it don't depend on its pieces.
-use Rattle.std.proofs.Common.{◌≡◌, ℕ, ◌≤◌, ◌+◌, inl, inr, List, [], ◌∷◌, ◌++◌, length, Option, Some, Result, Ok, Err, refl, sym, ap, subst, ◌∙◌, append_assoc, arith}
+use Rattle.std.proofs.Common.{◌≡◌, ℕ, true, ◌≤◌, ◌+◌, inl, inr, List, [], ◌∷◌, ◌++◌, length, Option, Some, Result, Ok, Err, refl, sym, ap, subst, ◌∙◌, append_assoc, arith}
 use Rattle.std.specs.List.{flat_map, AllByRecursion}
 use Rattle.std.proofs.lemmas.List.{length-append, append-nil}
 use Rattle.std.proofs.lemmas.List.Concat.{flat_map-cons}
@@ -7,11 +7,13 @@ use Rattle.rpc_frame.specs.declared.frame.Frame.{Frame}
 use Rattle.frame_bytes.specs.declared.fault.FrameFault.{FrameFault}
 use Rattle.frame_bytes.specs.declared.fault.FrameFault.TheVariants.{Memory, TooLong, NotAFrame}
 use Rattle.body_fields.proofs.Fields.{some_is}
-use Rattle.frame_bytes.specs.Fields.{IsWord, IsText, word, text, word_at, text_at}
-use Rattle.frame_bytes.specs.Frames.{IsFrame, frame_body, frame_bytes, max_frame, whole_at}
+use Rattle.frame_bytes.specs.Fields.{IsWord, word, text, word_at, text_at}
+use Rattle.frame_bytes.specs.Frames.{frame_body, frame_bytes, max_frame, whole_at}
+use Rattle.frame_bytes.specs.Limits.{is_text}
+use Rattle.frame_bytes.specs.Ranges.{IsFrame}
 use Rattle.frame_bytes.specs.Streams.{IsCut, IsPartial, IsTooLong, Stands, Left, Rest, Broken, Ends, Splits, Feeds, frames_of, HadMemory, AllFed, Nothing, Further}
-use Rattle.frame_bytes.proofs.FieldLaws.{word-inverse, text-inverse}
-use Rattle.frame_bytes.proofs.FrameLaws.{whole-again}
+use Rattle.frame_bytes.proofs.FieldLaws.{text-is, word-inverse, text-inverse}
+use Rattle.frame_bytes.proofs.FrameLaws.{frame-short, whole-again}
 
 pub record Same (A : Type 0) (a b : A) (x y : List ℕ) : Type 0 where
   pub value : a ≡ b
@@ -32,15 +34,15 @@ word-same m n x y fm fn e =
     in let pair = some_is (m, x) (n, y) read
     in record { value = ap (λ (p : ℕ × List ℕ). p.0) pair; rest = ap (λ (p : ℕ × List ℕ). p.1) pair }
 
-text-same : (b c x y : List ℕ) → IsText b → IsText c → text b ++ x ≡ text c ++ y → Same (List ℕ) b c x y
+text-same : (b c x y : List ℕ) → is_text b ≡ true → is_text c ≡ true → text b ++ x ≡ text c ++ y → Same (List ℕ) b c x y
 text-same b c x y fb fc e =
     let read : text-read (b, x) ≡ text-read (c, y) =
     sym (text-inverse.again b x fb) ∙ ap text_at e ∙ text-inverse.again c y fc
     in let pair = some_is (b, x) (c, y) read
     in record { value = ap (λ (p : List ℕ × List ℕ). p.0) pair; rest = ap (λ (p : List ℕ × List ℕ). p.1) pair }
 
-short-text : (f : Frame) → IsFrame f → IsText (frame_body f)
-short-text f h = let s = h.short in omega (arith, s)
+short-text : (f : Frame) → IsFrame f → is_text (frame_body f) ≡ true
+short-text f h = text-is (frame_body f) (omega (arith, frame-short f h))
 
 -- bytes that begin with the spellings of two frames begin with one frame, and the same bytes stand behind it
 pub frame-same : (f g : Frame) (x y : List ℕ) → IsFrame f → IsFrame g → frame_bytes f ++ x ≡ frame_bytes g ++ y
@@ -48,7 +50,7 @@ pub frame-same : (f g : Frame) (x y : List ℕ) → IsFrame f → IsFrame g → 
 frame-same f g x y hf hg e =
     let t = text-same (frame_body f) (frame_body g) x y (short-text f hf) (short-text g hg) e
     in record {
-      value = some_is f g (sym (whole-again f hf.fields) ∙ ap whole_at t.value ∙ whole-again g hg.fields);
+      value = some_is f g (sym (whole-again f hf) ∙ ap whole_at t.value ∙ whole-again g hg);
       rest = t.rest;
     }
 
@@ -118,12 +120,13 @@ one-end bytes (Broken a) (Rest b) s t = absurd (partial-stands bytes a (subst Is
 frame-stands : (f : Frame) (bytes more : List ℕ) (l : Left) → IsFrame f → bytes ≡ frame_bytes f ++ more → Ends bytes l
     → ⊥
 frame-stands f bytes more (Rest rest) h is s =
-    not-partial bytes (frame_body f) more h.short is (subst IsPartial (sym s.0) s.1)
+    not-partial bytes (frame_body f) more (frame-short f h) is (subst IsPartial (sym s.0) s.1)
 frame-stands f bytes more (Broken Memory) h is s = s
-frame-stands f bytes more (Broken TooLong) h is s = not-long bytes (frame_body f) more h.short is s
+frame-stands f bytes more (Broken TooLong) h is s = not-long bytes (frame_body f) more (frame-short f h) is s
 frame-stands f bytes more (Broken NotAFrame) h is s =
     let few = s.short
-    in let same = text-same s.body (frame_body f) s.more more (omega (arith, few)) (short-text f h) (sym s.spelled ∙ is)
+    in let same = text-same s.body (frame_body f) s.more more (text-is s.body (omega (arith, few))) (short-text f h)
+    (sym s.spelled ∙ is)
     in s.none f h same.value
 
 -- ---- a stream has one reading

@@ -1,19 +1,14 @@
 -- Calls as bytes: a code, and the call's arguments.
-use Rattle.std.specs.Prelude.{ℕ, ℤ, FitsSigned, List, [], ◌∷◌, ◌++◌, length, Some}
-use Rattle.std.specs.List.{flat_map, AllByRecursion}
-use Rattle.std.specs.Int.{w32}
+use Rattle.std.specs.Prelude.{ℕ, List, [], ◌∷◌, ◌++◌, length, Some}
+use Rattle.std.specs.List.{flat_map}
 use Rattle.pico_base.specs.declared.call.Call.{Call}
 use Rattle.pico_base.specs.declared.call.Call.TheVariants as calls
 use Rattle.pico_base.specs.declared.call.SemStep.{SemStep}
 use Rattle.pico_base.specs.Signal.{signal_number}
 use Rattle.frame_bytes.specs.Readers.{Reader, one, two, three, four, five, counted, tabled}
-use Rattle.frame_bytes.specs.Fields.{IsWord, IsHalf, IsPositive, IsCount, IsSigArg, IsText, word, half, signed, text, flag_byte, sigarg_byte, word_at, half_at, positive_at, count_at, signed_at, flag_at, sig_at, sigarg_at, text_at}
+use Rattle.frame_bytes.specs.Fields.{word, half, signed, text, flag_byte, sigarg_byte, word_at, half_at, positive_at, count_at, signed_at, flag_at, sig_at, sigarg_at, text_at}
 
 -- an operation of semop
-
-pub record IsStep (s : SemStep) : Type 0 where
-  pub num : IsHalf s.num
-  pub add : FitsSigned w32 s.add
 
 abbrev pub step_field : SemStep → List ℕ
 step_field s = half s.num ++ (signed s.add ++ flag_byte s.nowait ∷ [])
@@ -24,10 +19,6 @@ step_at bytes = three half_at signed_at flag_at
 
 -- operations, of which there is one at least
 
-pub record AreSteps (steps : List SemStep) : Type 0 where
-  pub count : IsCount (length steps)
-  pub each : AllByRecursion IsStep steps
-
 abbrev pub steps_field : List SemStep → List ℕ
 steps_field steps = half (length steps) ++ flat_map step_field steps
 
@@ -36,59 +27,13 @@ steps_at bytes = counted count_at step_at bytes
 
 -- values for a whole set, of which there is one at least
 
-pub record AreSet (values : List ℕ) : Type 0 where
-  pub count : IsCount (length values)
-  pub each : AllByRecursion IsWord values
-
 abbrev pub values_field : List ℕ → List ℕ
 values_field values = half (length values) ++ flat_map word values
 
 unfoldable pub set_at : Reader (List ℕ)
 set_at bytes = counted count_at word_at bytes
 
--- The calls that one node asks another to carry out. The private gets and `kill` with a number that is no signal's are
--- carried out by their caller, and so are all calls on the caller itself.
-
-pub record IsSend (i : ℕ) (z : ℤ) (bytes : List ℕ) : Type 0 where
-  pub id : IsWord i
-  pub class : FitsSigned w32 z
-  pub text : IsText bytes
-
-pub record IsReceive (i : ℕ) (z : ℤ) (most : ℕ) : Type 0 where
-  pub id : IsWord i
-  pub class : FitsSigned w32 z
-  pub size : IsWord most
-
-pub record IsSetValue (i k v : ℕ) : Type 0 where
-  pub id : IsWord i
-  pub num : IsHalf k
-  pub value : IsWord v
-
-abbrev pub IsAskedCall : Call → Type 0
-IsAskedCall (calls.Kill pid sig) = IsWord pid × IsSigArg sig
-IsAskedCall (calls.MsgGet (Some key) create excl) = IsPositive key
-IsAskedCall (calls.MsgSnd id class bytes nowait) = IsSend id class bytes
-IsAskedCall (calls.MsgRcv id class size noerror nowait) = IsReceive id class size
-IsAskedCall (calls.MsgStat id) = IsWord id
-IsAskedCall (calls.MsgSet id qbytes) = IsWord id × IsWord qbytes
-IsAskedCall (calls.MsgRmid id) = IsWord id
-IsAskedCall (calls.SemGet (Some key) count create excl) = IsPositive key × IsWord count
-IsAskedCall (calls.SemOp id steps) = IsWord id × AreSteps steps
-IsAskedCall (calls.SemGetVal id num) = IsWord id × IsHalf num
-IsAskedCall (calls.SemSetVal id num value) = IsSetValue id num value
-IsAskedCall (calls.SemGetAll id) = IsWord id
-IsAskedCall (calls.SemSetAll id values) = IsWord id × AreSet values
-IsAskedCall (calls.SemGetPid id num) = IsWord id × IsHalf num
-IsAskedCall (calls.SemGetNcnt id num) = IsWord id × IsHalf num
-IsAskedCall (calls.SemGetZcnt id num) = IsWord id × IsHalf num
-IsAskedCall (calls.SemRmid id) = IsWord id
-IsAskedCall _ = ⊥
-
--- the calls that end a process
-abbrev pub IsLastCall : Call → Type 0
-IsLastCall (calls.Exit status) = IsHalf status
-IsLastCall (calls.Killed sig) = Unit {0}
-IsLastCall _ = ⊥
+-- calls
 
 abbrev pub call_bytes : Call → List ℕ
 call_bytes (calls.Kill pid sig) = 1 ∷ (word pid ++ sigarg_byte sig ∷ [])

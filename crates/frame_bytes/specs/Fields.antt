@@ -1,5 +1,5 @@
--- The fields of frames: how each is spelled and read, and which values have a spelling. Numbers have their high bytes
--- first, and signed ones are in two's complement.
+-- The fields of frames: how each is spelled and read. Numbers have their high bytes first, and signed ones are in two's
+-- complement.
 use Rattle.std.specs.Prelude.{◌≡◌, ℕ, ◌+◌, ◌<◌, ◌^◌, Bool, true, false, ◌&&◌, ℤ, List, [], ◌∷◌, ◌++◌, length, map, take, drop, Some, None, nat_lt, nat_le, if◌then◌else◌}
 use Rattle.std.specs.Int.{w16, w32, to_be_bytes, cast_signed, cast_unsigned}
 use Rattle.body_fields.specs.Fields.{number_at}
@@ -37,20 +37,10 @@ abbrev pub half_at : Reader ℕ
 half_at bytes = number_at w16 bytes
 
 -- a number of 4 bytes that is at least 1
-
-pub record IsPositive (n : ℕ) : Type 0 where
-  pub fits : IsWord n
-  pub least : nat_lt 0 n ≡ true
-
 unfoldable pub positive_at : Reader ℕ
 positive_at bytes = passing (nat_lt 0) word_at bytes
 
 -- a number of 2 bytes that is at least 1
-
-pub record IsCount (n : ℕ) : Type 0 where
-  pub fits : IsHalf n
-  pub least : nat_lt 0 n ≡ true
-
 unfoldable pub count_at : Reader ℕ
 count_at bytes = passing (nat_lt 0) half_at bytes
 
@@ -97,11 +87,6 @@ sigarg_byte Zero = 0
 sigarg_byte (Is sig) = signal_number sig
 sigarg_byte Bad = 0
 
-abbrev pub IsSigArg : SigArg → Type 0
-IsSigArg Zero = Unit {0}
-IsSigArg (Is sig) = Unit {0}
-IsSigArg Bad = ⊥
-
 abbrev pub all_sigargs : List SigArg
 all_sigargs = Zero ∷ map Is all_signals
 
@@ -141,9 +126,6 @@ name_of kinds.Proc n = names.Proc n
 name_of kinds.Msg n = names.Msg n
 name_of kinds.Sem n = names.Sem n
 
-abbrev pub IsName : Name → Type 0
-IsName name = IsPositive (name_number name)
-
 abbrev pub name_field : Name → List ℕ
 name_field name = kind_byte (kind_of name) ∷ word (name_number name)
 
@@ -151,9 +133,6 @@ unfoldable pub name_at : Reader Name
 name_at bytes = two kind_at positive_at name_of bytes
 
 -- a text: its length in 4 bytes, and so many bytes
-
-abbrev pub IsText : List ℕ → Type 0
-IsText bytes = length bytes < 2 ^ 32
 
 abbrev pub text : List ℕ → List ℕ
 text bytes = word (length bytes) ++ bytes

@@ -1,6 +1,6 @@
 -- Frames as bytes: a length in 4 bytes, and so many bytes: the kind's code, and the kind's fields.
-use Rattle.std.specs.Prelude.{◌≡◌, ℕ, ◌<◌, ◌≤◌, Bool, true, nat_le, ◌==◌, if◌then◌else◌, List, [], ◌∷◌, ◌++◌, length, map, Option, Some, None}
-use Rattle.std.specs.List.{flat_map, AllByRecursion}
+use Rattle.std.specs.Prelude.{ℕ, Bool, nat_le, ◌==◌, if◌then◌else◌, List, [], ◌∷◌, ◌++◌, length, map, Option, Some, None}
+use Rattle.std.specs.List.{flat_map}
 use Rattle.pico_base.specs.declared.call.Call.{Call}
 use Rattle.pico_base.specs.declared.numbers.Name.{Name}
 use Rattle.pico_base.specs.declared.numbers.Name.TheVariants as names
@@ -11,15 +11,11 @@ use Rattle.rpc_frame.specs.declared.deed.Parcel.{Parcel}
 use Rattle.rpc_frame.specs.declared.frame.Frame.{Frame}
 use Rattle.rpc_frame.specs.declared.frame.Frame.TheVariants as frames
 use Rattle.frame_bytes.specs.Readers.{Reader, byte_at, passing, one, two, three, four, counted, tabled}
-use Rattle.frame_bytes.specs.Fields.{IsWord, IsHalf, IsPositive, IsNode, IsName, IsText, word, half, text, kind_byte, name_field, word_at, half_at, positive_at, node_at, kind_at, name_at, text_at, rise_from}
-use Rattle.frame_bytes.specs.Calls.{IsAskedCall, IsLastCall, call_bytes, asked_call_at, last_call_at}
-use Rattle.frame_bytes.specs.Replies.{IsAnswer, reply_bytes, reply_at}
+use Rattle.frame_bytes.specs.Fields.{word, half, text, kind_byte, name_field, word_at, half_at, positive_at, node_at, kind_at, name_at, text_at, rise_from}
+use Rattle.frame_bytes.specs.Calls.{call_bytes, asked_call_at, last_call_at}
+use Rattle.frame_bytes.specs.Replies.{reply_bytes, reply_at}
 
 -- a deed: its name, and its body as a text
-
-pub record IsDeed (deed : PackedDeed) : Type 0 where
-  pub name : IsName deed.name
-  pub body : IsText deed.body
 
 abbrev pub deed_field : PackedDeed → List ℕ
 deed_field deed = name_field deed.name ++ text deed.body
@@ -31,11 +27,6 @@ deed_at bytes = two name_at text_at (λ name body. record { name = name; body = 
 
 abbrev pub is_index : ℕ → Bool
 is_index n = nat_le n 2885
-
-pub record IsValue (v : ℕ × ℕ) : Type 0 where
-  pub fits : IsHalf v.0
-  pub index : is_index v.0 ≡ true
-  pub value : IsWord v.1
 
 abbrev pub value_field : ℕ × ℕ → List ℕ
 value_field v = half v.0 ++ word v.1
@@ -49,11 +40,6 @@ value_at bytes = two index_at word_at (λ index value. (index, value)) bytes
 -- the indices rise
 abbrev pub have_order : List (ℕ × ℕ) → Bool
 have_order vars = rise_from 0 (map (λ v. v.0) vars)
-
-pub record AreVars (vars : List (ℕ × ℕ)) : Type 0 where
-  pub count : IsHalf (length vars)
-  pub each : AllByRecursion IsValue vars
-  pub rising : have_order vars ≡ true
 
 abbrev pub vars_field : List (ℕ × ℕ) → List ℕ
 vars_field vars = half (length vars) ++ flat_map value_field vars
@@ -70,11 +56,6 @@ process_of _ = 0
 abbrev pub are_processes : List PackedDeed → Bool
 are_processes deeds = rise_from 1 (map (λ deed. process_of deed.name) deeds)
 
-pub record AreDeeds (deeds : List PackedDeed) : Type 0 where
-  pub count : length deeds < 256
-  pub each : AllByRecursion IsDeed deeds
-  pub processes : are_processes deeds ≡ true
-
 abbrev pub deeds_field : List PackedDeed → List ℕ
 deeds_field deeds = length deeds ∷ flat_map deed_field deeds
 
@@ -82,12 +63,6 @@ unfoldable pub deeds_at : Reader (List PackedDeed)
 deeds_at bytes = passing are_processes (counted byte_at deed_at) bytes
 
 -- a parcel
-
-pub record IsParcel (p : Parcel) : Type 0 where
-  pub pid : IsWord p.pid
-  pub parent : IsWord p.parent
-  pub call : IsLastCall p.call
-  pub deeds : AreDeeds p.deeds
 
 abbrev pub parcel_field : Parcel → List ℕ
 parcel_field p = word p.pid ++ (word p.parent ++ (call_bytes p.call ++ deeds_field p.deeds))
@@ -99,17 +74,8 @@ parcel_at bytes =
 
 -- a call that was asked for, and what Ask and Request say of it
 
-pub record IsAsking (t p : ℕ) (c : Call) : Type 0 where
-  pub ticket : IsPositive t
-  pub pid : IsWord p
-  pub call : IsAskedCall c
-
 abbrev pub asking : ℕ → ℕ → Call → List ℕ
 asking ticket pid call = word ticket ++ (word pid ++ call_bytes call)
-
-pub record IsAsked (asked : Asked) : Type 0 where
-  pub caller : IsNode asked.caller
-  pub asking : IsAsking asked.ticket asked.pid asked.call
 
 abbrev pub asked_field : Asked → List ℕ
 asked_field asked = asked.caller ∷ asking asked.ticket asked.pid asked.call
@@ -120,38 +86,6 @@ asked_at bytes =
     (λ caller ticket pid call. record { caller = caller; ticket = ticket; pid = pid; call = call }) bytes
 
 -- frames
-
-pub record IsCheckpoint (p q : ℕ) (d : PackedDeed) (vs : List (ℕ × ℕ)) : Type 0 where
-  pub pid : IsWord p
-  pub parent : IsWord q
-  pub deed : IsDeed d
-  pub vars : AreVars vs
-
-pub record IsLeaving (p q n : ℕ) : Type 0 where
-  pub pid : IsWord p
-  pub parent : IsWord q
-  pub parent_node : IsNode n
-
--- the values of the fields are those that have a spelling
-abbrev pub HasFields : Frame → Type 0
-HasFields (frames.Ask ticket pid call) = IsAsking ticket pid call
-HasFields (frames.Request ticket pid call) = IsAsking ticket pid call
-HasFields (frames.Forward asked) = IsAsked asked
-HasFields (frames.Bounce asked) = IsAsked asked
-HasFields (frames.Answer ticket reply) = IsPositive ticket × IsAnswer reply
-HasFields (frames.NotOwner ticket) = IsPositive ticket
-HasFields (frames.LeaseAsk kind) = Unit {0}
-HasFields (frames.Lease kind first) = IsWord first
-HasFields (frames.Placed name node) = IsName name × IsNode node
-HasFields (frames.Checkpoint pid parent deed vars) = IsCheckpoint pid parent deed vars
-HasFields (frames.Suggest name node) = IsName name × IsNode node
-HasFields (frames.Recall name) = IsName name
-HasFields (frames.GiveBack deed) = IsDeed deed
-HasFields (frames.Grant deed) = IsDeed deed
-HasFields (frames.Leaving pid parent parent_node) = IsLeaving pid parent parent_node
-HasFields frames.RecallAll = Unit {0}
-HasFields (frames.Left parcel) = IsParcel parcel
-HasFields (frames.ExitTo parcel) = IsParcel parcel
 
 -- the bytes behind the length
 abbrev pub frame_body : Frame → List ℕ
@@ -178,11 +112,6 @@ frame_body (frames.ExitTo parcel) = 18 ∷ parcel_field parcel
 -- the greatest number that a length field may have
 abbrev pub max_frame : ℕ
 max_frame = 262144
-
--- what has a spelling
-pub record IsFrame (f : Frame) : Type 0 where
-  pub fields : HasFields f
-  pub short : length (frame_body f) ≤ max_frame
 
 -- the one spelling of a frame
 abbrev pub frame_bytes : Frame → List ℕ

@@ -5,6 +5,6 @@ pub mod Replies
 pub mod Frames
 pub mod Streams
 pub mod Limits
+pub mod Ranges
 pub mod Splitting
 pub mod Examples
-pub mod LimitTests

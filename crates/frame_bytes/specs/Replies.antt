@@ -1,38 +1,15 @@
 -- Replies as bytes: a code, and the reply's values.
-use Rattle.std.specs.Prelude.{ℕ, FitsSigned, List, [], ◌∷◌, ◌++◌, length}
-use Rattle.std.specs.List.{AllByRecursion}
-use Rattle.std.specs.Int.{w32}
+use Rattle.std.specs.Prelude.{ℕ, List, [], ◌∷◌, ◌++◌}
 use Rattle.pico_base.specs.declared.reply.Reply.{Reply}
 use Rattle.pico_base.specs.declared.reply.Reply.TheVariants as replies
 use Rattle.pico_base.specs.ErrorNumber.{error_number}
 use Rattle.frame_bytes.specs.Readers.{Reader, one, two, four, counted, tabled}
-use Rattle.frame_bytes.specs.Fields.{IsWord, IsHalf, IsText, word, signed, text, word_at, half_at, signed_at, errno_at, text_at}
+use Rattle.frame_bytes.specs.Fields.{word, signed, text, word_at, half_at, signed_at, errno_at, text_at}
 use Rattle.frame_bytes.specs.Calls.{values_field}
 
 -- the values of a set
-
-pub record AreValues (values : List ℕ) : Type 0 where
-  pub count : IsHalf (length values)
-  pub each : AllByRecursion IsWord values
-
 unfoldable pub values_at : Reader (List ℕ)
 values_at bytes = counted half_at word_at bytes
-
-pub record IsStat (n b s r : ℕ) : Type 0 where
-  pub qnum : IsWord n
-  pub qbytes : IsWord b
-  pub sender : IsWord s
-  pub receiver : IsWord r
-
--- The replies of calls that another node carries out. Sets of signals and children are replied by the caller's own
--- node, and an exit has no reply of its own.
-abbrev pub IsAnswer : Reply → Type 0
-IsAnswer (replies.Num n) = IsWord n
-IsAnswer (replies.Message class bytes) = FitsSigned w32 class × IsText bytes
-IsAnswer (replies.Stat qnum qbytes sender receiver) = IsStat qnum qbytes sender receiver
-IsAnswer (replies.All values) = AreValues values
-IsAnswer (replies.Fail errno) = Unit {0}
-IsAnswer _ = ⊥
 
 abbrev pub reply_bytes : Reply → List ℕ
 reply_bytes (replies.Num n) = 1 ∷ word n

@@ -5,7 +5,8 @@ use Rattle.rpc_frame.specs.declared.frame.Frame.{Frame}
 use Rattle.frame_bytes.specs.declared.fault.FrameFault.{FrameFault}
 use Rattle.frame_bytes.specs.declared.splitting.Ahead.{Ahead}
 use Rattle.frame_bytes.specs.declared.splitting.Ahead.TheVariants as aheads
-use Rattle.frame_bytes.specs.Frames.{IsFrame, frame_bytes}
+use Rattle.frame_bytes.specs.Frames.{frame_bytes}
+use Rattle.frame_bytes.specs.Ranges.{IsFrame}
 use Rattle.frame_bytes.specs.Streams.{IsPartial, Stands, Begins}
 
 -- what stands at the front of the bytes

@@ -5,7 +5,8 @@ use Rattle.rpc_frame.specs.declared.frame.Frame.{Frame}
 use Rattle.frame_bytes.specs.declared.fault.FrameFault.{FrameFault}
 use Rattle.frame_bytes.specs.declared.fault.FrameFault.TheVariants.{Memory, TooLong, NotAFrame}
 use Rattle.frame_bytes.specs.Fields.{IsWord, word, text}
-use Rattle.frame_bytes.specs.Frames.{IsFrame, frame_body, frame_bytes, max_frame}
+use Rattle.frame_bytes.specs.Frames.{frame_body, frame_bytes, max_frame}
+use Rattle.frame_bytes.specs.Ranges.{IsFrame}
 
 -- a length that a frame may have, and fewer bytes than it says
 pub record IsCut (bytes : List ℕ) : Type 0 where

@@ -12,13 +12,14 @@ use pico_base::{Call, Id, Key, Memory, Pid, SemStep, Steps, UnpackFault, Values}
 use std::alloc::Global;
 
 impl Item for SemStep {
-    ghost use Rattle.frame_bytes.specs.Calls.{IsStep, step_at, step_field};
+    ghost use Rattle.frame_bytes.specs.Calls.{step_at, step_field};
+    ghost use Rattle.frame_bytes.specs.Ranges.{HasStepRanges};
 
     ghost reader = { step_at };
 
     ghost spelling = { step_field };
 
-    ghost fits = { λ s. IsStep s };
+    ghost fits = { λ s. HasStepRanges s };
 
     ghost within = { λ _. Unit {0} };
 

@@ -1,7 +1,8 @@
 //! A frame to its bytes.
 ghost use Rattle.std.specs.Prelude.{◌≡◌, IfOk};
-ghost use Rattle.frame_bytes.specs.Frames.{IsFrame, frame_bytes};
+ghost use Rattle.frame_bytes.specs.Frames.{frame_bytes};
 ghost use Rattle.frame_bytes.specs.Limits.{IsWithinLimits};
+ghost use Rattle.frame_bytes.specs.Ranges.{IsFrame};
 
 use crate::writing::put_frame;
 use byteorder::{BigEndian, ByteOrder};

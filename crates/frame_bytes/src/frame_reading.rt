@@ -27,16 +27,18 @@ fn deed(alloc: Global, bytes: &[u8]) -> Read<'_, PackedDeed>
 }
 
 impl Item for PackedDeed {
-    ghost use Rattle.frame_bytes.specs.Frames.{IsDeed, deed_at, deed_field};
-    ghost use Rattle.frame_bytes.specs.Limits.{IsDeedWithin};
+    ghost use Rattle.std.specs.Prelude.{IsTrue};
+    ghost use Rattle.frame_bytes.specs.Frames.{deed_at, deed_field};
+    ghost use Rattle.frame_bytes.specs.Limits.{is_deed};
+    ghost use Rattle.frame_bytes.specs.Ranges.{HasDeedRange};
 
     ghost reader = { deed_at };
 
     ghost spelling = { deed_field };
 
-    ghost fits = { λ d. IsDeed d };
+    ghost fits = { λ d. HasDeedRange d };
 
-    ghost within = { λ d. IsDeedWithin d };
+    ghost within = { λ d. IsTrue (is_deed d) };
 
     fn read(alloc: Global, bytes: &[u8]) -> Read<'_, PackedDeed> {
         deed(alloc, bytes)
@@ -85,13 +87,14 @@ fn deeds(alloc: Global, bytes: &[u8]) -> Read<'_, PackedDeeds>
 }
 
 impl Item for (Var, u32) {
-    ghost use Rattle.frame_bytes.specs.Frames.{IsValue, value_at, value_field};
+    ghost use Rattle.frame_bytes.specs.Frames.{value_at, value_field};
+    ghost use Rattle.frame_bytes.specs.Ranges.{HasValueRanges};
 
     ghost reader = { value_at };
 
     ghost spelling = { value_field };
 
-    ghost fits = { λ v. IsValue v };
+    ghost fits = { λ v. HasValueRanges v };
 
     ghost within = { λ _. Unit {0} };
 

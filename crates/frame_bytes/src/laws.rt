@@ -1,10 +1,9 @@
 //! What holds of frames as bytes and of all streams of them, as contracts of functions that do nothing.
-ghost use Rattle.std.specs.Prelude.{◌≡◌, ◌↔◌, IsTrue, ℕ, ◌++◌, [], List};
+ghost use Rattle.std.specs.Prelude.{◌≡◌, ℕ, ◌++◌, [], List};
 ghost use Rattle.std.specs.List.{flat_map};
 ghost use Rattle.rpc_frame.specs.declared.frame.Frame.{Frame};
-ghost use Rattle.frame_bytes.specs.Frames.{IsFrame, frame_bytes};
-ghost use Rattle.frame_bytes.specs.LimitTests.{is_frame};
-ghost use Rattle.frame_bytes.specs.Limits.{IsWithinLimits};
+ghost use Rattle.frame_bytes.specs.Frames.{frame_bytes};
+ghost use Rattle.frame_bytes.specs.Ranges.{IsFrame};
 ghost use Rattle.frame_bytes.specs.Streams.{AllFed, Left, Rest, Splits};
 
 /// A frame has one spelling, bytes spell at most one frame, and no frame's spelling begins another's.
@@ -24,9 +23,4 @@ pub fn a_stream_has_one_reading()
 pub fn pieces_do_not_matter()
     ensures { (pieces : List (List ℕ)) (frames : List Frame) (left : Left)
         → AllFed (Rest []) pieces frames left → Splits (flat_map (λ piece. piece) pieces) frames left }
-{}
-
-/// A test that computes decides whether a frame keeps to the limits.
-pub fn limits_are_a_test()
-    ensures { (f : Frame) → IsTrue (is_frame f) ↔ IsWithinLimits f }
 {}

@@ -1,11 +1,11 @@
 //! How many bytes a frame's body has, field by field. The fields keep to their limits, so no sum overflows: `few`
 //! bounds what a caller adds to.
-ghost use Rattle.std.specs.Prelude.{◌≡◌, ◌<◌, ◌≤◌, ◌^◌, length};
-ghost use Rattle.frame_bytes.specs.Fields.{IsCount, IsHalf, IsText, text};
+ghost use Rattle.std.specs.Prelude.{◌≡◌, ◌<◌, ◌≤◌, ◌^◌, IsTrue, length};
+ghost use Rattle.frame_bytes.specs.Fields.{text};
 ghost use Rattle.frame_bytes.specs.Calls.{call_bytes, steps_field, values_field};
 ghost use Rattle.frame_bytes.specs.Replies.{reply_bytes};
 ghost use Rattle.frame_bytes.specs.Frames.{deed_field, deeds_field, frame_body, parcel_field, vars_field};
-ghost use Rattle.frame_bytes.specs.Limits.{AreDeedsWithin, AreVarsWithin, FieldsWithin, IsCallWithin, IsDeedWithin, IsLastWithin, IsParcelWithin, IsReplyWithin};
+ghost use Rattle.frame_bytes.specs.Limits.{are_deeds, are_vars, has_fields, is_call, is_count, is_deed, is_half, is_last_call, is_parcel, is_reply, is_text};
 
 use pico_base::{Bytes, Call, Reply, Steps, Values, Vars};
 use rpc_frame::{Frame, PackedDeed, PackedDeeds, Parcel};
@@ -21,7 +21,7 @@ const NAME: usize = 1 + WORD;
 
 /// A text: its length, and so many bytes.
 fn text_len(bytes: &Bytes) -> usize
-    requires { IsText bytes.now }
+    requires { IsTrue (is_text bytes.now) }
     ensures len { result ≡ length (text bytes.now) }
     ensures few { result < 2 ^ 33 }
 {
@@ -30,7 +30,7 @@ fn text_len(bytes: &Bytes) -> usize
 
 /// Operations of `semop`: their count, and a number, what is added and a flag for each.
 fn steps_len(steps: &Steps) -> usize
-    requires { IsCount (length steps.now) }
+    requires { IsTrue (is_count (length steps.now)) }
     ensures len { result ≡ length (steps_field steps.now) }
     ensures few { result < 2 ^ 33 }
 {
@@ -39,7 +39,7 @@ fn steps_len(steps: &Steps) -> usize
 
 /// Values of a set: their count, and a number for each.
 fn values_len(values: &Values) -> usize
-    requires { IsHalf (length values.now) }
+    requires { IsTrue (is_half (length values.now)) }
     ensures len { result ≡ length (values_field values.now) }
     ensures few { result < 2 ^ 33 }
 {
@@ -48,7 +48,7 @@ fn values_len(values: &Values) -> usize
 
 /// Variables: their count, and an index and a value for each.
 fn vars_len(vars: &Vars) -> usize
-    requires { AreVarsWithin vars.now }
+    requires { IsTrue (are_vars vars.now) }
     ensures len { result ≡ length (vars_field vars.now) }
     ensures few { result < 2 ^ 33 }
 {
@@ -57,7 +57,7 @@ fn vars_len(vars: &Vars) -> usize
 
 /// A deed: its name and its body.
 fn deed_len(deed: &PackedDeed) -> usize
-    requires { IsDeedWithin deed.now }
+    requires { IsTrue (is_deed deed.now) }
     ensures len { result ≡ length (deed_field deed.now) }
     ensures few { result < 2 ^ 34 }
 {
@@ -66,7 +66,7 @@ fn deed_len(deed: &PackedDeed) -> usize
 
 /// The deeds of a parcel: their count in one byte, and each of them.
 fn deeds_len(deeds: &PackedDeeds) -> usize
-    requires { AreDeedsWithin deeds.now }
+    requires { IsTrue (are_deeds deeds.now) }
     ensures len { result ≡ length (deeds_field deeds.now) }
     ensures few { result < 2 ^ 43 }
 {
@@ -79,7 +79,7 @@ fn deeds_len(deeds: &PackedDeeds) -> usize
 
 /// A call that one node asks another to carry out: its code and its arguments.
 fn call_len(call: &Call) -> usize
-    requires { IsCallWithin call.now }
+    requires { IsTrue (is_call call.now) }
     ensures len { result ≡ length (call_bytes call.now) }
     ensures few { result < 2 ^ 34 }
 {
@@ -107,7 +107,7 @@ fn call_len(call: &Call) -> usize
 
 /// A call that ends a process: its code and its argument.
 fn last_call_len(call: &Call) -> usize
-    requires { IsLastWithin call.now }
+    requires { IsTrue (is_last_call call.now) }
     ensures len { result ≡ length (call_bytes call.now) }
     ensures few { result ≤ 3 }
 {
@@ -120,7 +120,7 @@ fn last_call_len(call: &Call) -> usize
 
 /// A reply that goes from node to node: its code and its values.
 fn reply_len(reply: &Reply) -> usize
-    requires { IsReplyWithin reply.now }
+    requires { IsTrue (is_reply reply.now) }
     ensures len { result ≡ length (reply_bytes reply.now) }
     ensures few { result < 2 ^ 34 }
 {
@@ -136,7 +136,7 @@ fn reply_len(reply: &Reply) -> usize
 
 /// A parcel: the process and its parent, its last call and the deeds.
 fn parcel_len(parcel: &Parcel) -> usize
-    requires { IsParcelWithin parcel.now }
+    requires { IsTrue (is_parcel parcel.now) }
     ensures len { result ≡ length (parcel_field parcel.now) }
     ensures few { result < 2 ^ 44 }
 {
@@ -145,7 +145,7 @@ fn parcel_len(parcel: &Parcel) -> usize
 
 /// What stands behind the frame's length: the code of its kind and the kind's fields.
 pub(crate) fn body_len(frame: &Frame) -> usize
-    requires { FieldsWithin frame.now }
+    requires { IsTrue (has_fields frame.now) }
     ensures { result ≡ length (frame_body frame.now) }
 {
     match frame {

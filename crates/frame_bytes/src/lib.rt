@@ -18,7 +18,5 @@ mod writing;
 pub use encoding::encode;
 pub use fault::FrameFault;
 pub use joiner::Joiner;
-pub use laws::{
-    a_stream_has_one_reading, limits_are_a_test, no_spelling_begins_another, pieces_do_not_matter,
-};
+pub use laws::{a_stream_has_one_reading, no_spelling_begins_another, pieces_do_not_matter};
 pub use limits::{has_room_to_go_on, is_within_limits};

@@ -1,11 +1,10 @@
 //! Whether a frame keeps to the limits, tested before it is spelled. A list is counted before it is walked, so one
 //! that is too long costs nothing, however long it is.
-ghost use Rattle.std.specs.Prelude.{◌≡◌, ◌↔◌, ◌&&◌, IsTrue, length, nat_lt};
+ghost use Rattle.std.specs.Prelude.{◌≡◌, ◌&&◌, length, nat_lt};
 ghost use Rattle.std.specs.List.{list_all};
 ghost use Rattle.frame_bytes.specs.Fields.{name_number};
 ghost use Rattle.frame_bytes.specs.Frames.{frame_body, max_frame};
-ghost use Rattle.frame_bytes.specs.LimitTests.{are_deeds, are_vars, has_fields, is_call, is_count, is_deed, is_frame, is_half, is_last_call, is_nonzero, is_parcel, is_reply, is_sigarg, is_text};
-ghost use Rattle.frame_bytes.specs.Limits.{IsWithinLimits};
+ghost use Rattle.frame_bytes.specs.Limits.{are_deeds, are_vars, has_fields, is_call, is_count, is_deed, is_frame, is_half, is_last_call, is_nonzero, is_parcel, is_reply, is_sigarg, is_text};
 
 use crate::frame_reading::{are_processes, have_order};
 use crate::lengths::body_len;
@@ -179,14 +178,13 @@ fn has_fields(frame: &Frame) -> bool
 /// what has an order keeps it, its calls and replies are of those that go from node to node, and its body is no
 /// longer than 262144 bytes. Any frame can be tested, and it takes no memory.
 pub fn is_within_limits(frame: &Frame) -> bool
-    ensures test { result ≡ is_frame frame.now }
-    ensures within { IsTrue result ↔ IsWithinLimits frame.now }
+    ensures { result ≡ is_frame frame.now }
 {
     has_fields(frame) && body_len(frame) <= MAX_FRAME as usize
 }
 
-/// Whether the frame keeps to the limits with room for one byte more: so much does a call grow where the leader sends it
-/// on, since the frame names the caller's node then. Any frame can be tested, and it takes no memory.
+/// Whether the frame keeps to the limits with room for one byte more: so much does a call grow where the leader sends
+/// it on, since the frame names the caller's node then. Any frame can be tested, and it takes no memory.
 pub fn has_room_to_go_on(frame: &Frame) -> bool
     ensures { result ≡ has_fields frame.now && nat_lt (length (frame_body frame.now)) max_frame }
 {

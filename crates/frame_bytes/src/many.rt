@@ -15,7 +15,7 @@ pub(crate) trait Item: Sized + Drop {
     /// The item's bytes.
     ghost spelling: { Self → List ℕ };
 
-    /// The item has a spelling.
+    /// The item's numbers are in the ranges of their types.
     ghost fits: { Self → Type 0 };
 
     /// What is asked of an item that is written, beside the ranges of its fields' types.

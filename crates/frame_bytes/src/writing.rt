@@ -1,11 +1,13 @@
-//! Frames as they are written: each function adds a field at the end, and finds that it is one that has a spelling.
-ghost use Rattle.std.specs.Prelude.{◌≡◌, ◌++◌, ◌∷◌, [], FitsSigned, length, OnOk};
+//! Frames as they are written: each function adds a field at the end, and finds its numbers in their types' ranges.
+ghost use Rattle.std.specs.Prelude.{◌≡◌, ◌++◌, ◌∷◌, [], FitsSigned, IsTrue, length, OnOk};
 ghost use Rattle.std.specs.Int.{to_be_bytes, w16, w32};
-ghost use Rattle.frame_bytes.specs.Fields.{IsCount, IsHalf, IsName, IsNode, IsText, IsWord, flag_byte, half, kind_byte, name_field, name_number, sigarg_byte, signed, text, word};
-ghost use Rattle.frame_bytes.specs.Calls.{AreSteps, IsAskedCall, IsLastCall, IsReceive, IsSend, call_bytes, steps_field, values_field};
-ghost use Rattle.frame_bytes.specs.Replies.{AreValues, IsAnswer, IsStat, reply_bytes};
-ghost use Rattle.frame_bytes.specs.Frames.{AreDeeds, AreVars, HasFields, IsAsked, IsAsking, IsCheckpoint, IsDeed, IsLeaving, IsParcel, asked_field, asking, deed_field, deeds_field, frame_body, parcel_field, vars_field};
-ghost use Rattle.frame_bytes.specs.Limits.{AreDeedsWithin, AreVarsWithin, FieldsWithin, IsCallWithin, IsDeedWithin, IsLastWithin, IsNonzero, IsParcelWithin, IsReplyWithin};
+ghost use Rattle.std.specs.List.{AllByRecursion};
+ghost use Rattle.frame_bytes.specs.Fields.{IsHalf, IsNode, IsWord, flag_byte, half, kind_byte, name_field, sigarg_byte, signed, text, word};
+ghost use Rattle.frame_bytes.specs.Calls.{call_bytes, steps_field, values_field};
+ghost use Rattle.frame_bytes.specs.Replies.{reply_bytes};
+ghost use Rattle.frame_bytes.specs.Frames.{asked_field, asking, deed_field, deeds_field, frame_body, parcel_field, vars_field};
+ghost use Rattle.frame_bytes.specs.Limits.{are_deeds, are_vars, has_fields, is_call, is_count, is_deed, is_half, is_last_call, is_parcel, is_reply, is_text};
+ghost use Rattle.frame_bytes.specs.Ranges.{HasAskedRanges, HasAskingRanges, HasCallRanges, HasCheckpointRanges, HasDeedRange, HasNameRange, HasParcelRanges, HasRanges, HasReplyRanges, HasStepRanges, HasValueRanges};
 
 use crate::many::put_many;
 use byteorder::{BigEndian, ByteOrder};
@@ -31,7 +33,7 @@ fn two_bytes(number: u16) -> [u8; 2]
 }
 
 pub(crate) fn put_text(out: &mut Vec<u8>, bytes: &Bytes) -> Result<(), Memory>
-    requires { IsText bytes.now }
+    requires { IsTrue (is_text bytes.now) }
     ensures { OnOk result (out.new.items ≡ out.old.items ++ text bytes.now) }
 {
     out.extend_from_slice(&four_bytes(bytes.len() as u32))?;
@@ -62,9 +64,9 @@ pub(crate) fn put_signed(out: &mut Vec<u8>, number: i32) -> Result<(), Memory>
 }
 
 fn put_steps(out: &mut Vec<u8>, steps: &Steps) -> Result<(), Memory>
-    requires { IsCount (length steps.now) }
+    requires { IsTrue (is_count (length steps.now)) }
     ensures bytes { OnOk result (out.new.items ≡ out.old.items ++ steps_field steps.now) }
-    ensures fits { OnOk result (AreSteps steps.now) }
+    ensures fits { OnOk result (AllByRecursion HasStepRanges steps.now) }
 {
     out.extend_from_slice(&two_bytes(steps.len() as u16))?;
     put_many(out, steps.as_slice())?;
@@ -72,9 +74,9 @@ fn put_steps(out: &mut Vec<u8>, steps: &Steps) -> Result<(), Memory>
 }
 
 fn put_values(out: &mut Vec<u8>, values: &Values) -> Result<(), Memory>
-    requires { IsHalf (length values.now) }
+    requires { IsTrue (is_half (length values.now)) }
     ensures bytes { OnOk result (out.new.items ≡ out.old.items ++ values_field values.now) }
-    ensures fits { OnOk result (AreValues values.now) }
+    ensures fits { OnOk result (AllByRecursion IsWord values.now) }
 {
     out.extend_from_slice(&two_bytes(values.len() as u16))?;
     put_many(out, values.as_slice())?;
@@ -82,9 +84,8 @@ fn put_values(out: &mut Vec<u8>, values: &Values) -> Result<(), Memory>
 }
 
 pub(crate) fn put_name(out: &mut Vec<u8>, name: Name) -> Result<(), Memory>
-    requires { IsNonzero (name_number name) }
     ensures bytes { OnOk result (out.new.items ≡ out.old.items ++ name_field name) }
-    ensures fits { OnOk result (IsName name) }
+    ensures fits { OnOk result (HasNameRange name) }
 {
     let (kind, number) = match name {
         Name::Proc(pid) => (1, pid.0),
@@ -97,9 +98,9 @@ pub(crate) fn put_name(out: &mut Vec<u8>, name: Name) -> Result<(), Memory>
 }
 
 pub(crate) fn put_deed(out: &mut Vec<u8>, deed: &PackedDeed) -> Result<(), Memory>
-    requires { IsDeedWithin deed.now }
+    requires { IsTrue (is_deed deed.now) }
     ensures bytes { OnOk result (out.new.items ≡ out.old.items ++ deed_field deed.now) }
-    ensures fits { OnOk result (IsDeed deed.now) }
+    ensures fits { OnOk result (HasDeedRange deed.now) }
 {
     put_name(out, deed.name)?;
     put_text(out, &deed.body)?;
@@ -192,10 +193,10 @@ fn put_send(
     bytes: &Bytes,
     nowait: bool,
 ) -> Result<(), Memory>
-    requires { IsText bytes.now }
+    requires { IsTrue (is_text bytes.now) }
     ensures bytes { OnOk result (out.new.items
         ≡ out.old.items ++ 3 ∷ (word id ++ (signed class ++ (text bytes.now ++ flag_byte nowait ∷ [])))) }
-    ensures fits { OnOk result (IsSend id class bytes.now) }
+    ensures fits { OnOk result (IsWord id × FitsSigned w32 class) }
 {
     put_typed(out, 3, id, class)?;
     put_text(out, bytes)?;
@@ -213,7 +214,7 @@ fn put_receive(
     ensures bytes { OnOk result (out.new.items
         ≡ out.old.items ++ 4
         ∷ (word id ++ (signed class ++ (word size ++ flag_byte noerror ∷ flag_byte nowait ∷ [])))) }
-    ensures fits { OnOk result (IsReceive id class size) }
+    ensures fits { OnOk result (IsWord id × FitsSigned w32 class × IsWord size) }
 {
     put_typed(out, 4, id, class)?;
     put_word(out, size)?;
@@ -222,9 +223,9 @@ fn put_receive(
 
 /// Adds a call that one node asks another to carry out.
 fn put_call(out: &mut Vec<u8>, call: &Call) -> Result<(), Memory>
-    requires { IsCallWithin call.now }
+    requires { IsTrue (is_call call.now) }
     ensures bytes { OnOk result (out.new.items ≡ out.old.items ++ call_bytes call.now) }
-    ensures fits { OnOk result (IsAskedCall call.now) }
+    ensures fits { OnOk result (HasCallRanges call.now) }
 {
     match call {
         Call::Kill { pid, sig } => {
@@ -286,9 +287,9 @@ fn put_call(out: &mut Vec<u8>, call: &Call) -> Result<(), Memory>
 
 /// Adds a call that ends a process.
 fn put_last_call(out: &mut Vec<u8>, call: &Call) -> Result<(), Memory>
-    requires { IsLastWithin call.now }
+    requires { IsTrue (is_last_call call.now) }
     ensures bytes { OnOk result (out.new.items ≡ out.old.items ++ call_bytes call.now) }
-    ensures fits { OnOk result (IsLastCall call.now) }
+    ensures fits { OnOk result (HasCallRanges call.now) }
 {
     match call {
         Call::Exit { status } => {
@@ -308,7 +309,7 @@ fn put_last_call(out: &mut Vec<u8>, call: &Call) -> Result<(), Memory>
 fn put_stat(out: &mut Vec<u8>, qnum: u32, qbytes: u32, lspid: u32, lrpid: u32) -> Result<(), Memory>
     ensures bytes { OnOk result (out.new.items
         ≡ out.old.items ++ 3 ∷ (word qnum ++ (word qbytes ++ (word lspid ++ word lrpid)))) }
-    ensures fits { OnOk result (IsStat qnum qbytes lspid lrpid) }
+    ensures fits { OnOk result (IsWord qnum × IsWord qbytes × IsWord lspid × IsWord lrpid) }
 {
     put_one(out, 3, qnum)?;
     put_word(out, qbytes)?;
@@ -317,9 +318,9 @@ fn put_stat(out: &mut Vec<u8>, qnum: u32, qbytes: u32, lspid: u32, lrpid: u32) -
 }
 
 fn put_message(out: &mut Vec<u8>, class: i32, bytes: &Bytes) -> Result<(), Memory>
-    requires { IsText bytes.now }
+    requires { IsTrue (is_text bytes.now) }
     ensures bytes { OnOk result (out.new.items ≡ out.old.items ++ 2 ∷ (signed class ++ text bytes.now)) }
-    ensures fits { OnOk result (FitsSigned w32 class × IsText bytes.now) }
+    ensures fits { OnOk result (FitsSigned w32 class) }
 {
     out.push(2)?;
     put_signed(out, class)?;
@@ -328,9 +329,9 @@ fn put_message(out: &mut Vec<u8>, class: i32, bytes: &Bytes) -> Result<(), Memor
 
 /// Adds a reply that goes from node to node.
 fn put_reply(out: &mut Vec<u8>, reply: &Reply) -> Result<(), Memory>
-    requires { IsReplyWithin reply.now }
+    requires { IsTrue (is_reply reply.now) }
     ensures bytes { OnOk result (out.new.items ≡ out.old.items ++ reply_bytes reply.now) }
-    ensures fits { OnOk result (IsAnswer reply.now) }
+    ensures fits { OnOk result (HasReplyRanges reply.now) }
 {
     match reply {
         Reply::Num(number) => put_one(out, 1, *number),
@@ -355,27 +356,27 @@ fn put_reply(out: &mut Vec<u8>, reply: &Reply) -> Result<(), Memory>
 }
 
 fn put_vars(out: &mut Vec<u8>, vars: &Vars) -> Result<(), Memory>
-    requires { AreVarsWithin vars.now }
+    requires { IsTrue (are_vars vars.now) }
     ensures bytes { OnOk result (out.new.items ≡ out.old.items ++ vars_field vars.now) }
-    ensures fits { OnOk result (AreVars vars.now) }
+    ensures fits { OnOk result (AllByRecursion HasValueRanges vars.now) }
 {
     out.extend_from_slice(&two_bytes(vars.len() as u16))?;
     put_many(out, vars.as_slice())
 }
 
 fn put_deeds(out: &mut Vec<u8>, deeds: &PackedDeeds) -> Result<(), Memory>
-    requires { AreDeedsWithin deeds.now }
+    requires { IsTrue (are_deeds deeds.now) }
     ensures bytes { OnOk result (out.new.items ≡ out.old.items ++ deeds_field deeds.now) }
-    ensures fits { OnOk result (AreDeeds deeds.now) }
+    ensures fits { OnOk result (AllByRecursion HasDeedRange deeds.now) }
 {
     out.push(deeds.len() as u8)?;
     put_many(out, deeds.as_slice())
 }
 
 fn put_parcel(out: &mut Vec<u8>, parcel: &Parcel) -> Result<(), Memory>
-    requires { IsParcelWithin parcel.now }
+    requires { IsTrue (is_parcel parcel.now) }
     ensures bytes { OnOk result (out.new.items ≡ out.old.items ++ parcel_field parcel.now) }
-    ensures fits { OnOk result (IsParcel parcel.now) }
+    ensures fits { OnOk result (HasParcelRanges parcel.now) }
 {
     put_word(out, parcel.pid.0)?;
     put_word(out, parcel.parent.0)?;
@@ -385,10 +386,9 @@ fn put_parcel(out: &mut Vec<u8>, parcel: &Parcel) -> Result<(), Memory>
 
 /// Adds what Ask and Request say of a call.
 fn put_asking(out: &mut Vec<u8>, ticket: u32, pid: Pid, call: &Call) -> Result<(), Memory>
-    requires ticket { IsNonzero ticket }
-    requires call { IsCallWithin call.now }
+    requires { IsTrue (is_call call.now) }
     ensures bytes { OnOk result (out.new.items ≡ out.old.items ++ asking ticket pid call.now) }
-    ensures fits { OnOk result (IsAsking ticket pid call.now) }
+    ensures fits { OnOk result (HasAskingRanges ticket pid call.now) }
 {
     put_word(out, ticket)?;
     put_word(out, pid.0)?;
@@ -396,10 +396,9 @@ fn put_asking(out: &mut Vec<u8>, ticket: u32, pid: Pid, call: &Call) -> Result<(
 }
 
 fn put_asked(out: &mut Vec<u8>, asked: &Asked) -> Result<(), Memory>
-    requires ticket { IsNonzero asked.now.ticket }
-    requires call { IsCallWithin asked.now.call }
+    requires { IsTrue (is_call asked.now.call) }
     ensures bytes { OnOk result (out.new.items ≡ out.old.items ++ asked_field asked.now) }
-    ensures fits { OnOk result (IsAsked asked.now) }
+    ensures fits { OnOk result (HasAskedRanges asked.now) }
 {
     put_node(out, asked.caller)?;
     put_asking(out, asked.ticket, asked.pid, &asked.call)
@@ -415,9 +414,8 @@ fn put_node(out: &mut Vec<u8>, node: Node) -> Result<(), Memory>
 
 /// Adds a code, a name, and a node.
 fn put_place(out: &mut Vec<u8>, code: u8, name: Name, node: Node) -> Result<(), Memory>
-    requires { IsNonzero (name_number name) }
     ensures bytes { OnOk result (out.new.items ≡ out.old.items ++ code ∷ (name_field name ++ node ∷ [])) }
-    ensures fits { OnOk result (IsName name × IsNode node) }
+    ensures fits { OnOk result (HasNameRange name × IsNode node) }
 {
     out.push(code)?;
     put_name(out, name)?;
@@ -431,11 +429,11 @@ fn put_checkpoint(
     deed: &PackedDeed,
     vars: &Vars,
 ) -> Result<(), Memory>
-    requires deed { IsDeedWithin deed.now }
-    requires vars { AreVarsWithin vars.now }
+    requires deed { IsTrue (is_deed deed.now) }
+    requires vars { IsTrue (are_vars vars.now) }
     ensures bytes { OnOk result (out.new.items
         ≡ out.old.items ++ 10 ∷ (word pid ++ (word parent ++ (deed_field deed.now ++ vars_field vars.now)))) }
-    ensures fits { OnOk result (IsCheckpoint pid parent deed.now vars.now) }
+    ensures fits { OnOk result (HasCheckpointRanges pid parent deed.now vars.now) }
 {
     put_one(out, 10, pid.0)?;
     put_word(out, parent.0)?;
@@ -445,7 +443,7 @@ fn put_checkpoint(
 
 fn put_leaving(out: &mut Vec<u8>, pid: Pid, parent: Pid, node: Node) -> Result<(), Memory>
     ensures bytes { OnOk result (out.new.items ≡ out.old.items ++ 15 ∷ (word pid ++ (word parent ++ node ∷ []))) }
-    ensures fits { OnOk result (IsLeaving pid parent node) }
+    ensures fits { OnOk result (IsWord pid × IsWord parent × IsNode node) }
 {
     put_one(out, 15, pid.0)?;
     put_word(out, parent.0)?;
@@ -454,9 +452,9 @@ fn put_leaving(out: &mut Vec<u8>, pid: Pid, parent: Pid, node: Node) -> Result<(
 
 /// Adds a kind's code, and its fields.
 pub(crate) fn put_frame(out: &mut Vec<u8>, frame: &Frame) -> Result<(), Memory>
-    requires { FieldsWithin frame.now }
+    requires { IsTrue (has_fields frame.now) }
     ensures bytes { OnOk result (out.new.items ≡ out.old.items ++ frame_body frame.now) }
-    ensures fits { OnOk result (HasFields frame.now) }
+    ensures fits { OnOk result (HasRanges frame.now) }
 {
     match frame {
         Frame::Ask { ticket, pid, call } => {

@@ -2,10 +2,10 @@
 ghost use Rattle.std.specs.Prelude.{◌≤◌, IfOk};
 
 use host_iface::{
-    CallList, Gate, MemSink, MemSource, OpenGate, ReadStop, StdSink, StdSource, SureSink,
-    SureSource, WriteStop, read_all, write_all,
+    CallList, MemSink, MemSource, ReadStop, StdSink, StdSource, SureSink, SureSource, WriteStop,
+    read_all, write_all,
 };
-use pico_base::{Bytes, Node};
+use pico_base::Bytes;
 use std::alloc::Global;
 use std::io;
 use std::io::{ErrorKind, Read, Write};
@@ -190,10 +190,4 @@ fn the_sure_ones_never_fail(rt: HostRuntime) -> Result<(), Fail> {
     assert_eq!(rt; read_all(alloc, &mut source, 6), Ok(text));
     assert_eq!(rt; write_all(&mut SureSink::new(), TEXT), Ok(()));
     Ok(())
-}
-
-#[test]
-fn an_open_gate_holds_nobody() {
-    OpenGate.pass(Node(1), 1);
-    OpenGate.did(Node(1), 1);
 }

@@ -1,4 +1,5 @@
 pub mod Plain
+pub mod Lists
 pub mod Unbinding
 pub mod Steps
 pub mod Moves

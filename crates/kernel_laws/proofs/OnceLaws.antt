@@ -9,22 +9,12 @@ use Rattle.pico_base.specs.declared.reply.Ending.{Ending}
 use Rattle.kernel_model.specs.Row.{Family, no_family, with_child, family_after_end, without_ended, lists, EndedChild, ended_child}
 use Rattle.kernel_laws.specs.Once.{ListsOnce}
 use Rattle.kernel_laws.proofs.Plain.{not_true}
+use Rattle.kernel_laws.proofs.Lists.{all-filtered}
 use Rattle.kernel_laws.proofs.Members.{contains-first, contains-later}
 
 nothing-twice : {K : Type 0} (e : K → K → Bool) → IsDistinct e []
 unfolding IsDistinct
 nothing-twice e = tt
-
-all-filtered : {X : Type 0} (P : X → Type 0) (p : X → Bool) (xs : List X) → AllByRecursion P xs
-    → AllByRecursion P (filter p xs)
-all-filtered P p [] h = h
-all-filtered {X} P p (x ∷ xs) h =
-    let Q : List X → Type 0 = λ ys. AllByRecursion P ys
-    in elim (cases_Bool (p x)) [
-      | inl t ↦ let e : filter p (x ∷ xs) ≡ x ∷ filter p xs =
-          rw t refl in subst Q (sym e) (h.0, all-filtered P p xs h.1)
-      | inr f ↦ let e : filter p (x ∷ xs) ≡ filter p xs = rw f refl in subst Q (sym e) (all-filtered P p xs h.1)
-    ]
 
 distinct-filtered : (p : ℕ → Bool) (xs : List ℕ) → IsDistinct nat_eq xs → IsDistinct nat_eq (filter p xs)
 distinct-filtered p [] h = h

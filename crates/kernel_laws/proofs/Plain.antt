@@ -1,6 +1,7 @@
 -- Options, tests and effects in general.
-use Rattle.std.proofs.Common.{◌≡◌, Bool, true, false, Option, Some, None, Result, Ok, Err, refl}
+use Rattle.std.proofs.Common.{◌≡◌, Bool, true, false, Option, Some, None, Result, Ok, Err, refl, subst}
 use Rattle.std.specs.Prelude.{if◌then◌else◌}
+use Rattle.std.specs.Option.{option_and_then, option_map}
 
 -- a value that is there is one
 pub from_some : {A : Type 0} (a b : A) → Some a ≡ Some b → a ≡ b
@@ -45,3 +46,32 @@ pub by_test : {A : Type 0} (P : A → Type 0) (b : Bool) (x y : A) → (b ≡ tr
     → P (if b then x else y)
 by_test P true x y h g = h refl
 by_test P false x y h g = g refl
+
+-- what comes of an option, where each thing that it may have leads to what holds
+pub of-next : {A B : Type 0} (P : B → Type 0) (o : Option A) (f : A → Option B) → ((x : A) → o ≡ Some x → Of P (f x))
+    → Of P (option_and_then f o)
+of-next P None f h = tt
+of-next P (Some x) f h = h x refl
+
+-- the same of a map
+pub of-map : {A B : Type 0} (P : B → Type 0) (o : Option A) (f : A → B) → ((x : A) → o ≡ Some x → P (f x))
+    → Of P (option_map f o)
+of-map P None f h = tt
+of-map P (Some x) f h = h x refl
+
+-- the same of a test
+pub of-test : {A : Type 0} (P : A → Type 0) (b : Bool) (o : Option A) → (b ≡ true → Of P o)
+    → Of P (if b then o else None)
+of-test P true o h = h refl
+of-test P false o h = tt
+
+-- and what holds of an option holds of what it has
+pub of-some : {A : Type 0} (P : A → Type 0) (o : Option A) (x : A) → Of P o → o ≡ Some x → P x
+of-some P None x h is = not_some x is
+of-some P (Some y) x h is = subst P (from_some y x is) h
+
+-- a test whose option has something passed
+pub if-some : {A : Type 0} (b : Bool) (o : Option A) (x : A) → (if b then o else None) ≡ Some x
+    → (b ≡ true) × (o ≡ Some x)
+if-some true o x h = (refl, h)
+if-some false o x h = not_some x h

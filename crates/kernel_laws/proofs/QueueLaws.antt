@@ -146,8 +146,9 @@ queues-moves P rule k pid a n t =
       removes_set = λ id. t;
     }
 
-within-rule : QueueRule IsQueueWithinLimits
-within-rule =
+-- each change of a queue keeps it within its limits
+pub queue-within-rule : QueueRule IsQueueWithinLimits
+queue-within-rule =
     record {
       new = within-empty;
       sent = within-sent;
@@ -167,7 +168,7 @@ queues-opening = table-empty IsQueueWithinLimits
 pub queues-kept : Kept Queues
 queues-kept =
     record {
-      moves = λ k pid call n next outcome s t. queues-moves IsQueueWithinLimits within-rule k pid s.alive n t;
+      moves = λ k pid call n next outcome s t. queues-moves IsQueueWithinLimits queue-within-rule k pid s.alive n t;
       finishes = λ pid k a t l d. t;
     }
 

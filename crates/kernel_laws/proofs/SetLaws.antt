@@ -255,8 +255,9 @@ sets-moves P rule k pid a n t =
       removes_set = λ id. table-remove P k.sets k.set_keys k.used_sets t id;
     }
 
-within-rule : SetRule IsSetWithinLimits
-within-rule =
+-- each change of a set keeps it within its limits
+pub set-within-rule : SetRule IsSetWithinLimits
+set-within-rule =
     record {
       new = λ count set h. made-within count set (is_bad_count count) refl h;
       operated = operated-within;
@@ -278,7 +279,7 @@ sets-opening = table-empty IsSetWithinLimits
 pub sets-kept : Kept Sets
 sets-kept =
     record {
-      moves = λ k pid call n next outcome s t. sets-moves IsSetWithinLimits within-rule k pid s.alive n t;
+      moves = λ k pid call n next outcome s t. sets-moves IsSetWithinLimits set-within-rule k pid s.alive n t;
       finishes = λ pid k a t l d. t;
     }
 

@@ -60,13 +60,21 @@ abbrev pub set_variable : Vars → Option ℕ → ℕ → Vars
 set_variable vars None n = vars
 set_variable vars (Some v) n = put vars v n
 
+-- after this reply the call is made once more, by a line that was tried so often before, and is at most so often
+abbrev pub is_due_again : Call → Reply → ℕ → ℕ → Bool
+is_due_again call reply tried tries = asks_again call (Some reply) && nat_lt (tried + 1) tries
+
+-- the variables behind a line, with the one that it sets
+abbrev pub vars_after : Vars → Option ℕ → Reply → Vars
+vars_after vars set reply = set_variable vars set (value_in (Some reply))
+
 -- the place after a reply: the same line once more, or the next one with the variable set
 abbrev pub after_reply : Place → Call → Reply → List Line → Place
 after_reply place call reply [] = place
 after_reply place call reply (line ∷ lines) =
-    if asks_again call (Some reply) && nat_lt (place.tried + 1) line.tries
+    if is_due_again call reply place.tried line.tries
     then record place { tried = place.tried + 1 }
-    else record { left = lines; tried = 0; vars = set_variable place.vars line.set (value_in (Some reply)) }
+    else record { left = lines; tried = 0; vars = vars_after place.vars line.set reply }
 
 -- a call without a reply is still under way at its line
 abbrev pub after_line : Place → Call → Option Reply → List Line → Place

@@ -1,11 +1,10 @@
 -- The calls on message queues (POSIX.1-2017: msgget, msgsnd, msgrcv, msgctl). The order of each call's refusals is the
 -- profile's.
-use Rattle.std.specs.Prelude.{ℕ, Bool, not, ◌&&◌, nat_eq, if◌then◌else◌, Option, Some, None, Result, Ok, Err}
-use Rattle.std.specs.List.{filter}
+use Rattle.std.specs.Prelude.{ℕ, Bool, ◌&&◌, if◌then◌else◌, Option, Some, None, Result, Ok, Err}
 use Rattle.pico_base.specs.declared.reply.Errno.{Errno}
 use Rattle.pico_base.specs.declared.reply.Errno.TheVariants.{Enoent, Eexist}
 use Rattle.pico_base.specs.declared.reply.Reply.TheVariants as replies
-use Rattle.number_maps.specs.Maps.{Numbered, get, put, without, used_with}
+use Rattle.number_maps.specs.Maps.{Numbered, get, put, without, without_value, used_with}
 use Rattle.kernel_model.specs.Queue.{Queue, Received, empty_queue, stat}
 use Rattle.kernel_model.specs.Kernel.{Kernel}
 use Rattle.kernel_model.specs.Effect.{Effect, reply_with, refuse, is_fresh}
@@ -50,7 +49,7 @@ stat_effect k q = record { kernel = k; reply = stat q }
 
 -- no key leads to the identifier any more (msgctl and semctl with IPC_RMID)
 abbrev pub unbind : Numbered ℕ → ℕ → Numbered ℕ
-unbind keys id = filter (λ e. not (nat_eq e.1 id)) keys
+unbind keys id = without_value (λ thing. thing) keys id
 
 -- msgctl with IPC_RMID
 abbrev pub remove_queue : Kernel → ℕ → Effect

@@ -6,7 +6,7 @@ use Rattle.std.specs.List.{flat_map}
 use Rattle.std.specs.Prelude.{nat_le}
 use Rattle.frame_bytes.specs.Calls.{call_bytes, step_field}
 use Rattle.frame_bytes.specs.Fields.{flag_byte, word}
-use Rattle.frame_bytes.specs.LimitTests.{is_call}
+use Rattle.frame_bytes.specs.Limits.{is_call}
 use Rattle.kernel_laws.proofs.Plain.{by_test}
 use Rattle.kernel_model.specs.Numbers.{is_between}
 use Rattle.kernel_model.specs.Script.{Vars, call_from, is_in_range, is_type, value_of, with_target}

@@ -4,10 +4,11 @@ use Rattle.std.proofs.lemmas.Bool.{false≢true, and_parts}
 use Rattle.std.specs.List.{AllByRecursion, list_all}
 use Rattle.std.specs.Prelude.{if◌then◌else◌}
 use Rattle.frame_bytes.specs.Fields.{name_number}
-use Rattle.frame_bytes.specs.LimitTests.{is_deed, is_nonzero}
-use Rattle.kernel_laws.proofs.Plain.{by_test, Of}
+use Rattle.frame_bytes.specs.Limits.{is_deed, is_nonzero}
+use Rattle.kernel_laws.proofs.Plain.{by_test, Of, of-next, of-map, of-test, of-some}
 use Rattle.kernel_laws.specs.Queues.{IsQueueWithinLimits}
 use Rattle.kernel_laws.specs.Sets.{IsSetWithinLimits}
+use Rattle.kernel_laws.proofs.Lists.{all-both}
 use Rattle.kernel_model.specs.Effect.{Effect}
 use Rattle.kernel_model.specs.Kernel as kernel
 use Rattle.kernel_model.specs.Kernel.{Kernel, Process}
@@ -20,7 +21,7 @@ use Rattle.limit_laws.proofs.Lengths.{nonzero-is-some}
 use Rattle.limit_laws.proofs.Named.{AreChangesWithin, deeds-get}
 use Rattle.limit_laws.proofs.Replies.{effect-is-short}
 use Rattle.limit_laws.proofs.Served.{no-family-within, family-ended-within, IsChildNumbered, IsEffectWithin, effect-within}
-use Rattle.limit_laws.proofs.Tables.{all-put, all-get, all-both, of-next, of-map, of-test, of-some}
+use Rattle.limit_laws.proofs.Tables.{all-put, all-get}
 use Rattle.limit_laws.specs.Bodies.{IsFamilyWithin, IsPersonWithin, IsKernelWithin}
 use Rattle.limit_laws.specs.Within.{IsDeedWithin, AreDeedsWithin, IsBodyWithin, IsReplyShort}
 use Rattle.node_model.specs.Bodies.{Body, Living, Ended, Gone, Deeds, AQueue, ASet, Removed, free_to_act, body_in, kernel_with, empty_kernel, process_body, queue_body, set_body}

@@ -3,7 +3,7 @@ use Rattle.std.proofs.Common.{◌≡◌, ℕ, true, refl, ◌≤◌, length, nat
 use Rattle.std.proofs.lemmas.Bool.{and_from, and_parts, leb-true}
 use Rattle.std.specs.List.{list_all}
 use Rattle.frame_bytes.specs.Frames.{are_processes, frame_body, max_frame}
-use Rattle.frame_bytes.specs.LimitTests.{is_frame, is_reply, is_last_call, is_deed, is_call, has_fields, are_deeds, is_nonzero}
+use Rattle.frame_bytes.specs.Limits.{is_frame, is_reply, is_last_call, is_deed, is_call, has_fields, are_deeds, is_nonzero}
 use Rattle.limit_laws.proofs.Calls.{IsSpellable, call-is-within, call-is-short}
 use Rattle.limit_laws.proofs.Lengths.{name-is-nonzero}
 use Rattle.limit_laws.proofs.Plain.{some-nonzero, fields-are-frame}

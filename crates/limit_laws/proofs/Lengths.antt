@@ -10,7 +10,7 @@ use Rattle.fork_wait.specs.Spelling.{family_bytes, ending_bytes, ended_bytes}
 use Rattle.frame_bytes.specs.Calls.{call_bytes}
 use Rattle.frame_bytes.specs.Fields.{name_number, rise_from}
 use Rattle.frame_bytes.specs.Frames.{are_processes, deed_field, value_field, vars_field, deeds_field, process_of}
-use Rattle.frame_bytes.specs.LimitTests.{is_frame, are_vars, is_last_call, is_deed, is_nonzero}
+use Rattle.frame_bytes.specs.Limits.{is_frame, are_vars, is_last_call, is_deed, is_nonzero}
 use Rattle.kernel_laws.specs.Queues.{IsQueueWithinLimits}
 use Rattle.kernel_laws.specs.Sets.{IsSetWithinLimits}
 use Rattle.kernel_model.specs.Queue.{Queue, Message}

@@ -1,5 +1,4 @@
 pub mod Tables
-pub mod Kept
 pub mod Served
 pub mod Plain
 pub mod Rises

@@ -9,7 +9,7 @@ use Rattle.kernel_model.specs.Fitting.{is_killed, block_at, call_due}
 use Rattle.kernel_model.specs.Numbers.{is_between}
 use Rattle.kernel_model.specs.Script.{IsSoundScript, is_in_range, is_exit, calls_in, with_exit, is_variable, max_calls, is_line, is_tried_once, sets_rightly, can_name, is_process_in_range}
 use Rattle.limit_laws.proofs.Calls.{IsSpellable, range-is-spellable, line-is-spellable}
-use Rattle.limit_laws.proofs.Tables.{all-dropped}
+use Rattle.kernel_laws.proofs.Lists.{all-dropped}
 use Rattle.node_model.specs.Caller.{Caller, lines_of, caller_place, due_call, lines_in}
 use Rattle.pico_base.specs.declared.call.Call.{Call}
 use Rattle.pico_base.specs.declared.script.Block.{Block}

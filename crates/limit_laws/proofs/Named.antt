@@ -3,7 +3,7 @@ use Rattle.std.proofs.Common.{◌≡◌, Option, Some, None, ℕ, true, not, nat
 use Rattle.std.proofs.lemmas.Bool.{false≢true}
 use Rattle.std.specs.List.{AllByRecursion, range_with_len}
 use Rattle.limit_laws.proofs.Served.{family-more}
-use Rattle.limit_laws.proofs.Tables.{all-put, all-get, all-without, all-more}
+use Rattle.limit_laws.proofs.Tables.{all-put, all-get, all-without}
 use Rattle.limit_laws.specs.Within.{IsDeedWithin, AreDeedsWithin, IsBodyWithin, AllNamed}
 use Rattle.node_model.specs.Bodies.{Body, Living, Ended, Gone, Deeds, AQueue, ASet, Removed}
 use Rattle.node_model.specs.Kinds.{Named, for_kind, number_of, get_named, put_named, with_kind, none_named, put_all, without_named, PerKind}
@@ -13,6 +13,7 @@ use Rattle.pico_base.specs.declared.numbers.Kind.TheVariants as kinds
 use Rattle.pico_base.specs.declared.numbers.Kind.{Kind}
 use Rattle.pico_base.specs.declared.numbers.Name.TheVariants.{Proc, Msg, Sem}
 use Rattle.pico_base.specs.declared.numbers.Name.{Name}
+use Rattle.kernel_laws.proofs.Lists.{all-more}
 
 module _ {V : Type 0} (P : Name → V → Type 0) where
   -- it holds of a map without names

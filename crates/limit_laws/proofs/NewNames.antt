@@ -3,7 +3,7 @@ use Rattle.std.proofs.Common.{◌≡◌, Option, Some, None, Result, Err, Ok, �
 use Rattle.std.proofs.lemmas.Bool.{false≢true}
 use Rattle.std.specs.List.{AllByRecursion}
 use Rattle.std.specs.Prelude.{if◌then◌else◌, slice_get}
-use Rattle.kernel_laws.proofs.Plain.{by_test, Of, from_some, not_some}
+use Rattle.kernel_laws.proofs.Plain.{by_test, Of, from_some, not_some, of-map, of-next, of-test, of-some}
 use Rattle.kernel_laws.specs.Sets.{IsSetWithinLimits}
 use Rattle.kernel_model.specs.Fitting.{child_vars, child_vars_at}
 use Rattle.kernel_model.specs.Queue.{empty_queue}
@@ -11,14 +11,15 @@ use Rattle.kernel_model.specs.Row.{Row}
 use Rattle.kernel_model.specs.Script.{Vars, IsSoundScript}
 use Rattle.kernel_model.specs.SemaphoreSet.{SemaphoreSet, new_set}
 use Rattle.limit_laws.proofs.Frames.{placed-is-frame}
-use Rattle.limit_laws.proofs.Kept.{empty-queue-within, new-set-is-within}
+use Rattle.kernel_laws.proofs.QueueLaws.{queue-within-rule}
+use Rattle.kernel_laws.proofs.SetLaws.{set-within-rule}
 use Rattle.limit_laws.proofs.Lengths.{checkpoint-is-frame}
 use Rattle.limit_laws.proofs.Lines.{IsFineLine, lines-of-are-fine}
 use Rattle.limit_laws.proofs.Named.{deeds-get, deeds-more, kind-put, numbers-from, deeds-put}
 use Rattle.limit_laws.proofs.Plain.{some-nonzero}
 use Rattle.limit_laws.proofs.Served.{child-within}
 use Rattle.limit_laws.proofs.Steps.{tables-within, directory-within, answered-is, with-node-within, with-deeds-within, with-directory-step, send-within, carry-out-within, placed-within}
-use Rattle.limit_laws.proofs.Tables.{of-map, of-next, of-test, of-some, all-dropped}
+use Rattle.kernel_laws.proofs.Lists.{all-dropped}
 use Rattle.limit_laws.proofs.Vars.{set-are-variables}
 use Rattle.limit_laws.specs.Within.{IsDeedWithin, AreDeedsWithin, AreVariables, IsDirectoryWithin, IsNodeWithin, IsStepWithin, IsUnderWayWithin}
 use Rattle.node_model.specs.Bodies.{Body, Living, Ended, Gone, AQueue, ASet, Removed, row_of}
@@ -285,12 +286,12 @@ module _ (script : Script) (sound : IsSoundScript script) where
       let under : IsUnderWayWithin script s.node.number s.node.pid s.node.caller (calls.MsgGet key create excl) =
       k.node.under_way (calls.MsgGet key create excl) is
       in make-object-within s (calls.MsgGet key create excl) (Msg number) (AQueue empty_queue) number k under.ticket
-      (low, empty-queue-within)
+      (low, queue-within-rule.new)
   make-with-within s (calls.SemGet key count create excl) number k is low =
       let under : IsUnderWayWithin script s.node.number s.node.pid s.node.caller
       (calls.SemGet key count create excl) = k.node.under_way (calls.SemGet key count create excl) is
       in make-set-within s (calls.SemGet key count create excl) number (new_set count) k under.ticket low
-      (λ set fits. new-set-is-within count set fits)
+      (set-within-rule.new count)
   make-with-within s call number k is low = tt
 
   -- The call under way is carried out with the next number.

@@ -4,7 +4,7 @@ use Rattle.std.proofs.lemmas.Bool.{and_from, le-leb, lt-ltb}
 use Rattle.std.proofs.lemmas.List.{length-append}
 use Rattle.std.specs.List.{flat_map}
 use Rattle.frame_bytes.specs.Frames.{frame_body, max_frame}
-use Rattle.frame_bytes.specs.LimitTests.{has_fields, is_frame}
+use Rattle.frame_bytes.specs.Limits.{has_fields, is_frame}
 use Rattle.rpc_frame.specs.declared.frame.Frame.{Frame}
 
 -- A frame whose fields are within the limits, and whose bytes are few, is within the limits.

@@ -1,31 +1,29 @@
 -- The body that bytes are read as is within the limits, where it is a queue's or a set's. The numbers that stand for
 -- bytes may be any.
-use Rattle.std.proofs.Common.{◌≡◌, ℕ, zero, suc, ◌-◌, ◌≤◌, true, false, cond, eqb, ltb, ℤ, ◌≤ℤ◌, pos, List, [], ◌∷◌, length, take, drop, min, Some, None, refl, ap, subst, arith}
+use Rattle.std.proofs.Common.{◌≡◌, ℕ, zero, suc, ◌≤◌, true, false, cond, eqb, ltb, ℤ, ◌≤ℤ◌, pos, List, [], ◌∷◌, length, take, drop, Option, Some, None, refl, ap, subst, arith}
 use Rattle.std.proofs.lemmas.Bool.{false≢true, ltb-false, or_parts}
 use Rattle.std.proofs.lemmas.Int.{ints}
 use Rattle.std.proofs.lemmas.List.{length-take}
 use Rattle.std.proofs.lemmas.List.Elements.{All-cons, All-nil}
-use Rattle.std.proofs.lemmas.List.Sums.{sum_by-cons}
 use Rattle.std.specs.Int.{Width, w16, w32, cast_signed}
 use Rattle.std.specs.Option.{option_map}
 use Rattle.std.specs.Prelude.{All, ◌==◌, int_lt}
-use Rattle.body_fields.proofs.Fields.{bind_some, guard_ended, guard_some, guard_then, some_is}
-use Rattle.body_fields.specs.Fields.{number_at, number_upto}
-use Rattle.kernel_laws.proofs.Plain.{by_test, Of}
+use Rattle.body_fields.proofs.Fields.{bind_some, guard_some, guard_then, some_is, whole_is}
+use Rattle.body_fields.specs.Fields.{many_at, number_at, number_upto, whole}
+use Rattle.kernel_laws.proofs.Plain.{by_test, Of, of-map}
 use Rattle.kernel_laws.specs.Queues.{IsMessage, IsQueueWithinLimits}
 use Rattle.kernel_laws.specs.Sets.{IsSetWithinLimits}
 use Rattle.kernel_model.specs.Queue.{Message, Queue, bytes_of, max_messages, max_queue_bytes, max_text}
 use Rattle.kernel_model.specs.SemaphoreSet.{Semaphore, SemaphoreSet, is_bad_count, max_semaphores, max_value, set_of}
-use Rattle.limit_laws.proofs.Tables.{of-map}
 use Rattle.limit_laws.specs.Within.{IsBodyWithin}
-use Rattle.node_model.specs.Bodies.{AQueue, ASet}
+use Rattle.node_model.specs.Bodies.{AQueue, ASet, Removed}
 use Rattle.node_model.specs.Kinds.{is_object}
-use Rattle.node_model.specs.Spelling.{read_body, read_deed, read_queue, read_set, removed_if}
+use Rattle.node_model.specs.Spelling.{alone, read_body, read_deed, read_queue, read_set}
 use Rattle.pico_base.specs.Options.{◌>>=◌}
 use Rattle.pico_base.specs.declared.numbers.Name.TheVariants.{Proc, Msg, Sem}
 use Rattle.pico_base.specs.declared.numbers.Name.{Name}
 use Rattle.rpc_frame.specs.declared.deed.PackedDeed.{PackedDeed}
-use Rattle.sysv_msg.specs.Reading.{class_at, fields_at as queue_fields_at, message_at, messages_at, queue_at, text_at}
+use Rattle.sysv_msg.specs.Reading.{all_messages_at, class_at, fields_at as queue_fields_at, message_at, messages_at, queue_at, text_at}
 use Rattle.sysv_sem.proofs.Semaphores.{let_through}
 use Rattle.sysv_sem.specs.Reading.{counted_at, fields_at as set_fields_at, semaphore_at, semaphores_at, set_at}
 
@@ -63,80 +61,55 @@ class-within bytes x e =
     let g = guard_some (int_lt (cast_signed w32 n.0) (pos 1)) (cast_signed w32 n.0, n.1) x b.2 in
     subst (λ (p : ℤ × List ℕ). pos 1 ≤ℤ p.0) g.1 (not-below (cast_signed w32 n.0) g.0)
 
-message-within : (room : ℕ) (bytes : List ℕ) (x : Message × List ℕ) → message_at room bytes ≡ Some x
-    → IsMessage x.0 × (length x.0.text ≤ room)
+message-within : (bytes : List ℕ) (x : Message × List ℕ) → message_at bytes ≡ Some x → IsMessage x.0
 unfolding message_at
-message-within room bytes x e =
-    let a = bind_some (class_at bytes)
-    (λ class. text_at (min max_text room) class.1 >>= λ text.
-    Some (record { class = class.0; text = text.0 }, text.1)) x e in
-    let b = bind_some (text_at (min max_text room) a.0.1)
-    (λ text. Some (record { class = a.0.0; text = text.0 }, text.1)) x a.2 in
+message-within bytes x e =
+    let a = bind_some (class_at bytes) _ x e in
+    let b = bind_some (text_at max_text a.0.1) _ x a.2 in
     let class = class-within bytes a.0 a.1 in
-    let text = text-within (min max_text room) a.0.1 b.0 b.1 in
+    let text = text-within max_text a.0.1 b.0 b.1 in
     let made : Message × List ℕ = (record { class = a.0.0; text = b.0.0 }, b.0.1) in
     let short : length b.0.0 ≤ 4096 = omega (arith, text) in
-    let within : length b.0.0 ≤ room = omega (arith, text) in
-    subst (λ (y : Message × List ℕ). IsMessage y.0 × (length y.0.text ≤ room)) (some_is made x b.2)
-    (record { class = class; text = short }, within)
+    subst (λ (y : Message × List ℕ). IsMessage y.0) (some_is made x b.2) (record { class = class; text = short })
 
-messages-within : (n room : ℕ) (bytes : List ℕ) (x : List Message × List ℕ) → messages_at n room bytes ≡ Some x
-    → (length x.0 ≡ n) × (bytes_of x.0 ≤ room) × All IsMessage x.0
-unfolding messages_at
-messages-within zero room bytes x e =
-    subst (λ (y : List Message × List ℕ). (length y.0 ≡ 0) × (bytes_of y.0 ≤ room) × All IsMessage y.0)
-    (some_is ([], bytes) x e) (refl, omega arith, All-nil IsMessage)
-messages-within (suc n) room bytes x e =
-    let a = bind_some (message_at room bytes)
-    (λ first. messages_at n (room - length first.0.text) first.1 >>= λ others. Some (first.0 ∷ others.0, others.1))
-    x e in
-    let b = bind_some (messages_at n (room - length a.0.0.text) a.0.1)
-    (λ others. Some (a.0.0 ∷ others.0, others.1)) x a.2 in
-    let first = message-within room bytes a.0 a.1 in
-    let second = messages-within n (room - length a.0.0.text) a.0.1 b.0 b.1 in
-    let made : List Message × List ℕ = (a.0.0 ∷ b.0.0, b.0.1) in
-    let sum : bytes_of (a.0.0 ∷ b.0.0) ≤ room =
-    omega (arith, sum_by-cons (λ (m : Message). length m.text) a.0.0 b.0.0, first.1, second.1) in
-    subst (λ (y : List Message × List ℕ). (length y.0 ≡ suc n) × (bytes_of y.0 ≤ room) × All IsMessage y.0)
-    (some_is made x b.2) (ap suc second.0, sum, All-cons IsMessage a.0.0 b.0.0 first.0 second.2)
+many-within : {A : Type 0} (P : A → Type 0) (one : List ℕ → Option (A × List ℕ))
+    → ((bytes : List ℕ) (x : A × List ℕ) → one bytes ≡ Some x → P x.0) → (n : ℕ) (bytes : List ℕ)
+    → (x : List A × List ℕ) → many_at one n bytes ≡ Some x → (length x.0 ≡ n) × All P x.0
+many-within {A} P one each zero bytes x e =
+    subst (λ (y : List A × List ℕ). (length y.0 ≡ 0) × All P y.0) (some_is ([], bytes) x e) (refl, All-nil P)
+many-within {A} P one each (suc n) bytes x e =
+    let a = bind_some (one bytes) _ x e in
+    let b = bind_some (many_at one n a.0.1) _ x a.2 in
+    let others = many-within P one each n a.0.1 b.0 b.1 in
+    let made : List A × List ℕ = (a.0.0 ∷ b.0.0, b.0.1) in
+    subst (λ (y : List A × List ℕ). (length y.0 ≡ suc n) × All P y.0) (some_is made x b.2)
+    (ap suc others.0, All-cons P a.0.0 b.0.0 (each bytes a.0 a.1) others.1)
+
+all-within : (n : ℕ) (bytes : List ℕ) (ms : List Message) → all_messages_at n bytes ≡ Some ms
+    → (length ms ≡ n) × (bytes_of ms ≤ max_queue_bytes) × All IsMessage ms
+unfolding all_messages_at messages_at
+all-within n bytes ms e =
+    let read = bind_some (whole (messages_at n bytes)) _ ms e in
+    let g = guard_some (ltb max_queue_bytes (bytes_of read.0)) read.0 ms read.2 in
+    let t = many-within IsMessage message_at message-within n bytes (read.0, [])
+    (whole_is (messages_at n bytes) read.0 read.1) in
+    subst (λ (ms : List Message). (length ms ≡ n) × (bytes_of ms ≤ max_queue_bytes) × All IsMessage ms) g.1
+    (t.0, ltb-false _ _ g.0, t.1)
 
 fields-within : (bytes : List ℕ) (q : Queue) → queue_fields_at bytes ≡ Some q → IsQueueWithinLimits q
 unfolding queue_fields_at
 fields-within bytes q e =
-    let a = bind_some (number_upto w32 max_queue_bytes bytes)
-    (λ qbytes. number_at w32 qbytes.1 >>= λ sender. number_at w32 sender.1 >>= λ receiver.
-    number_upto w16 max_messages receiver.1 >>= λ count. messages_at count.0 max_queue_bytes count.1 >>= λ messages.
-    cond (eqb (length messages.1) 0)
-    (Some (record { messages = messages.0; qbytes = qbytes.0; last_sender = sender.0; last_receiver = receiver.0 }))
-    None) q e in
-    let b = bind_some (number_at w32 a.0.1)
-    (λ sender. number_at w32 sender.1 >>= λ receiver. number_upto w16 max_messages receiver.1 >>= λ count.
-    messages_at count.0 max_queue_bytes count.1 >>= λ messages.
-    cond (eqb (length messages.1) 0)
-    (Some (record { messages = messages.0; qbytes = a.0.0; last_sender = sender.0; last_receiver = receiver.0 }))
-    None) q a.2 in
-    let c = bind_some (number_at w32 b.0.1)
-    (λ receiver. number_upto w16 max_messages receiver.1 >>= λ count.
-    messages_at count.0 max_queue_bytes count.1 >>= λ messages.
-    cond (eqb (length messages.1) 0)
-    (Some (record { messages = messages.0; qbytes = a.0.0; last_sender = b.0.0; last_receiver = receiver.0 })) None)
-    q b.2 in
-    let d = bind_some (number_upto w16 max_messages c.0.1)
-    (λ count. messages_at count.0 max_queue_bytes count.1 >>= λ messages.
-    cond (eqb (length messages.1) 0)
-    (Some (record { messages = messages.0; qbytes = a.0.0; last_sender = b.0.0; last_receiver = c.0.0 })) None) q
-    c.2 in
-    let f = bind_some (messages_at d.0.0 max_queue_bytes d.0.1)
-    (λ messages. cond (eqb (length messages.1) 0)
-    (Some (record { messages = messages.0; qbytes = a.0.0; last_sender = b.0.0; last_receiver = c.0.0 })) None) q
-    d.2 in
-    let made : Queue = record { messages = f.0.0; qbytes = a.0.0; last_sender = b.0.0; last_receiver = c.0.0 } in
-    let g = guard_ended (eqb (length f.0.1) 0) made q f.2 in
+    let a = bind_some (number_upto w32 max_queue_bytes bytes) _ q e in
+    let b = bind_some (number_at w32 a.0.1) _ q a.2 in
+    let c = bind_some (number_at w32 b.0.1) _ q b.2 in
+    let d = bind_some (number_upto w16 max_messages c.0.1) _ q c.2 in
+    let f = bind_some (all_messages_at d.0.0 d.0.1) _ q d.2 in
+    let made : Queue = record { messages = f.0; qbytes = a.0.0; last_sender = b.0.0; last_receiver = c.0.0 } in
     let limit = upto-within w32 max_queue_bytes bytes a.0 a.1 in
     let count = upto-within w16 max_messages c.0.1 d.0 d.1 in
-    let messages = messages-within d.0.0 max_queue_bytes d.0.1 f.0 f.1 in
-    let few : length f.0.0 ≤ 1024 = omega (arith, messages.0, count) in
-    subst IsQueueWithinLimits {x = made} g.1
+    let messages = all-within d.0.0 d.0.1 f.0 f.1 in
+    let few : length f.0 ≤ 1024 = omega (arith, messages.0, count) in
+    subst IsQueueWithinLimits {x = made} (some_is made q f.2)
     (record { limit = limit; bytes = messages.1; count = few; messages = messages.2 })
 
 queue-within : (bytes : List ℕ) (q : Queue) → queue_at bytes ≡ Some q → IsQueueWithinLimits q
@@ -159,39 +132,22 @@ semaphore-within bytes x e =
 abbrev HasLowValue : Semaphore → Type 0
 HasLowValue s = s.value ≤ 32767
 
-semaphores-within : (n : ℕ) (bytes : List ℕ) (x : List Semaphore × List ℕ) → semaphores_at n bytes ≡ Some x
-    → (length x.0 ≡ n) × All HasLowValue x.0
-unfolding semaphores_at
-semaphores-within zero bytes x e =
-    subst (λ (y : List Semaphore × List ℕ). (length y.0 ≡ 0) × All HasLowValue y.0) (some_is ([], bytes) x e)
-    (refl, All-nil HasLowValue)
-semaphores-within (suc n) bytes x e =
-    let a = bind_some (semaphore_at bytes)
-    (λ first. semaphores_at n first.1 >>= λ others. Some (first.0 ∷ others.0, others.1)) x e in
-    let b = bind_some (semaphores_at n a.0.1) (λ others. Some (a.0.0 ∷ others.0, others.1)) x a.2 in
-    let first = semaphore-within bytes a.0 a.1 in
-    let second = semaphores-within n a.0.1 b.0 b.1 in
-    let made : List Semaphore × List ℕ = (a.0.0 ∷ b.0.0, b.0.1) in
-    subst (λ (y : List Semaphore × List ℕ). (length y.0 ≡ suc n) × All HasLowValue y.0) (some_is made x b.2)
-    (ap suc second.0, All-cons HasLowValue a.0.0 b.0.0 first second.1)
-
 some-count : (n : ℕ) → eqb n 0 ≡ false → 1 ≤ n
 some-count zero e = absurd cc
 some-count (suc n) e = omega arith
 
 counted-within : (count : ℕ) (bytes : List ℕ) (s : SemaphoreSet) → counted_at count bytes ≡ Some s
     → IsSetWithinLimits s
-unfolding counted_at set_fields_at
+unfolding counted_at set_fields_at semaphores_at
 counted-within count bytes s e =
-    let g = let_through (is_bad_count count)
-    (semaphores_at count bytes >>= λ x. cond (eqb (length x.1) 0) (Some (set_of x.0)) None) s e in
+    let g = let_through (is_bad_count count) (whole (semaphores_at count bytes) >>= λ x. Some (set_of x)) s e in
     let bad = or_parts (eqb count 0) (ltb max_semaphores count) g.0 in
-    let a = bind_some (semaphores_at count bytes) (λ x. cond (eqb (length x.1) 0) (Some (set_of x.0)) None) s g.1 in
-    let h = guard_ended (eqb (length a.0.1) 0) (set_of a.0.0) s a.2 in
-    let t = semaphores-within count bytes a.0 a.1 in
-    let least : 1 ≤ length a.0.0 = omega (arith, t.0, some-count count bad.0) in
-    let most : length a.0.0 ≤ 64 = omega (arith, t.0, ltb-false _ _ bad.1) in
-    subst IsSetWithinLimits h.1 (record { least = least; most = most; values = t.1 })
+    let a = bind_some (whole (semaphores_at count bytes)) (λ x. Some (set_of x)) s g.1 in
+    let t = many-within HasLowValue semaphore_at semaphore-within count bytes (a.0, [])
+    (whole_is (semaphores_at count bytes) a.0 a.1) in
+    let least : 1 ≤ length a.0 = omega (arith, t.0, some-count count bad.0) in
+    let most : length a.0 ≤ 64 = omega (arith, t.0, ltb-false _ _ bad.1) in
+    subst IsSetWithinLimits (some_is (set_of a.0) s a.2) (record { least = least; most = most; values = t.1 })
 
 set-within : (bytes : List ℕ) (s : SemaphoreSet) → set_at bytes ≡ Some s → IsSetWithinLimits s
 unfolding set_at
@@ -203,11 +159,11 @@ set-within (code ∷ count ∷ bytes) s e =
 -- ---- a deed
 
 module _ (own most : ℕ) where
-  removed-queue : (id : ℕ) (bytes : List ℕ) → Of (IsBodyWithin own most (Msg id)) (removed_if bytes)
+  removed-queue : (id : ℕ) (bytes : List ℕ) → Of (IsBodyWithin own most (Msg id)) (alone Removed bytes)
   removed-queue id [] = tt
   removed-queue id (b ∷ bytes) = tt
 
-  removed-set : (id : ℕ) (bytes : List ℕ) → Of (IsBodyWithin own most (Sem id)) (removed_if bytes)
+  removed-set : (id : ℕ) (bytes : List ℕ) → Of (IsBodyWithin own most (Sem id)) (alone Removed bytes)
   removed-set id [] = tt
   removed-set id (b ∷ bytes) = tt
 
@@ -217,13 +173,13 @@ module _ (own most : ℕ) where
   body-read (Proc pid) bytes object = absurd (false≢true object)
   body-read (Msg id) [] object = tt
   body-read (Msg id) (code ∷ bytes) object =
-      by_test (Of (IsBodyWithin own most (Msg id))) (code == 6) (removed_if bytes)
+      by_test (Of (IsBodyWithin own most (Msg id))) (code == 6) (alone Removed bytes)
       (option_map AQueue (queue_at (code ∷ bytes))) (λ _. removed-queue id bytes)
       (λ _. of-map (IsBodyWithin own most (Msg id)) (queue_at (code ∷ bytes)) AQueue
       (λ q is. queue-within (code ∷ bytes) q is))
   body-read (Sem id) [] object = tt
   body-read (Sem id) (code ∷ bytes) object =
-      by_test (Of (IsBodyWithin own most (Sem id))) (code == 6) (removed_if bytes)
+      by_test (Of (IsBodyWithin own most (Sem id))) (code == 6) (alone Removed bytes)
       (option_map ASet (set_at (code ∷ bytes))) (λ _. removed-set id bytes)
       (λ _. of-map (IsBodyWithin own most (Sem id)) (set_at (code ∷ bytes)) ASet
       (λ s is. set-within (code ∷ bytes) s is))

@@ -5,8 +5,8 @@ use Rattle.std.specs.List.{AllByRecursion, list_all}
 use Rattle.std.specs.Option.{option_map}
 use Rattle.std.specs.Prelude.{count_by}
 use Rattle.frame_bytes.specs.Fields.{name_number}
-use Rattle.frame_bytes.specs.LimitTests.{is_frame, is_deed, is_nonzero}
-use Rattle.kernel_laws.proofs.Plain.{by_test, Of}
+use Rattle.frame_bytes.specs.Limits.{is_frame, is_deed, is_nonzero}
+use Rattle.kernel_laws.proofs.Plain.{by_test, Of, of-map, of-some, of-next}
 use Rattle.kernel_model.specs.Script.{IsSoundScript}
 use Rattle.limit_laws.proofs.Carried.{exit-within}
 use Rattle.limit_laws.proofs.Frames.{exit-has-deeds}
@@ -14,7 +14,7 @@ use Rattle.limit_laws.proofs.Lengths.{nonzero-is-some}
 use Rattle.limit_laws.proofs.Named.{AreChangesWithin, deeds-put-all}
 use Rattle.limit_laws.proofs.Routed.{hold-item-within, route-call-within}
 use Rattle.limit_laws.proofs.Steps.{with-directory-step, send-within, with-deeds-within, enter-within, arrived-within, held-are-within}
-use Rattle.limit_laws.proofs.Tables.{of-map, of-some, of-next, all-both}
+use Rattle.kernel_laws.proofs.Lists.{all-both}
 use Rattle.limit_laws.specs.Within.{IsItemWithin, IsDirectoryWithin, IsNodeWithin, IsStepWithin, AreItemsWithin}
 use Rattle.node_model.specs.Bodies.{Body}
 use Rattle.node_model.specs.Directory.{Directory, Place, At, Coming, place_of, held_for, arrive, is_parcel, parcels_held}

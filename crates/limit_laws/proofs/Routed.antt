@@ -1,8 +1,8 @@
 -- The leader routes a call within limits.
 use Rattle.std.proofs.Common.{◌≡◌, Option, Some, None, Result, Err, Ok, ℕ, Bool, true, false, not, ◌&&◌, nat_eq, refl, ◌≤◌, length, ◌||◌, ap}
 use Rattle.std.specs.Prelude.{nat_le}
-use Rattle.frame_bytes.specs.LimitTests.{is_frame}
-use Rattle.kernel_laws.proofs.Plain.{by_test, Of}
+use Rattle.frame_bytes.specs.Limits.{is_frame}
+use Rattle.kernel_laws.proofs.Plain.{by_test, Of, of-map, of-some}
 use Rattle.kernel_laws.specs.Sets.{IsSetWithinLimits}
 use Rattle.kernel_model.specs.Queue.{empty_queue}
 use Rattle.kernel_model.specs.Script.{IsSoundScript}
@@ -11,12 +11,12 @@ use Rattle.key_table.specs.KeyMap.{key_answer}
 use Rattle.key_table.specs.declared.KeyAnswer.TheVariants as answers
 use Rattle.key_table.specs.declared.KeyAnswer.{KeyAnswer}
 use Rattle.limit_laws.proofs.Frames.{forwarded-has-ticket, recall-is-frame}
-use Rattle.limit_laws.proofs.Kept.{empty-queue-within, new-set-is-within}
+use Rattle.kernel_laws.proofs.QueueLaws.{queue-within-rule}
+use Rattle.kernel_laws.proofs.SetLaws.{set-within-rule}
 use Rattle.limit_laws.proofs.Named.{deeds-put}
 use Rattle.limit_laws.proofs.NewNames.{IsTakenWithin, take-number-within}
 use Rattle.limit_laws.proofs.Replies.{fail-is-short, num-is-short}
 use Rattle.limit_laws.proofs.Steps.{tables-within, leader-within, with-node-within, with-directory-step, send-within, carry-out-within, placed-within, recalled-within, hold-within, known-has-number, serve-asked-within, serve-nobody-within}
-use Rattle.limit_laws.proofs.Tables.{of-map, of-some}
 use Rattle.limit_laws.specs.Within.{IsDeedWithin, IsReplyShort, IsItemWithin, IsDirectoryWithin, IsNodeWithin, IsStepWithin}
 use Rattle.node_model.specs.Bodies.{Body, AQueue, ASet}
 use Rattle.node_model.specs.Directory.{Directory, Place, Coming, place_of, place_name, route, recall, hold, maker, maker_stays, route_by as place_route, route_by_maker, At}
@@ -91,7 +91,7 @@ module _ (script : Script) (sound : IsSoundScript script) where
   make-queue-within s asked key t k can taken =
       make-bound-within (with_node s t.node) asked (Msg t.number) (AQueue empty_queue) t.number
       (record t.node.leader { queue_keys = bind t.node.leader.queue_keys key t.number 0 })
-      (with-node-within script sound s t.node k taken.node) can taken.node.directory (taken.low, empty-queue-within)
+      (with-node-within script sound s t.node k taken.node) can taken.node.directory (taken.low, queue-within-rule.new)
 
   make-set-within : (s : Step) (asked : Asked) (key : ℕ) (set : SemaphoreSet) (t : Taken) → StepIs s → CanRoute asked
       → IsSetWithinLimits set → IsTakenWithin script s.node t → StepIs (make_set script s asked key set t)
@@ -137,7 +137,7 @@ module _ (script : Script) (sound : IsSoundScript script) where
   get-set-within s asked key count (answers.Found id size) k can =
       reply-within s asked (find_set id size count) k can (find-set-is-short id size count)
   get-set-within s asked key count answers.Create k can =
-      create-set-within s asked key (new_set count) k can (λ set fits. new-set-is-within count set fits)
+      create-set-within s asked key (new_set count) k can (set-within-rule.new count)
   get-set-within s asked key count (answers.Fail e) k can =
       reply-within s asked (replies.Fail e) k can (fail-is-short e)
 

@@ -6,6 +6,7 @@ use Rattle.std.specs.List.{AllByRecursion, list_any}
 use Rattle.kernel_laws.proofs.Plain.{Of, by_test}
 use Rattle.kernel_laws.specs.Queues.{IsQueueWithinLimits}
 use Rattle.kernel_laws.specs.Sets.{IsSetWithinLimits}
+use Rattle.kernel_laws.proofs.Lists.{all-both, all-filtered}
 use Rattle.kernel_model.specs.Effect.{Effect, reply_with, refuse, on_named, look_up}
 use Rattle.kernel_model.specs.Kernel as kernel
 use Rattle.kernel_model.specs.Kernel.{Kernel, Process, with_alive}
@@ -18,8 +19,9 @@ use Rattle.kernel_model.specs.SetCalls.{change_set, all_values, remove_set, with
 use Rattle.kernel_model.specs.Signals.{Signals, raise, act_on}
 use Rattle.kernel_model.specs.Transition.{effect}
 use Rattle.kernel_model.specs.Waiting.{may_wait}
-use Rattle.limit_laws.proofs.Kept.{sent-within, received-within, operated-within, limited-within, valued-within, all-valued-within}
-use Rattle.limit_laws.proofs.Tables.{all-both, all-filtered, all-get, all-put, all-without}
+use Rattle.kernel_laws.proofs.QueueLaws.{queue-within-rule}
+use Rattle.kernel_laws.proofs.SetLaws.{set-within-rule}
+use Rattle.limit_laws.proofs.Tables.{all-get, all-put, all-without}
 use Rattle.limit_laws.specs.Bodies.{IsFamilyWithin, IsPersonWithin, IsKernelWithin}
 use Rattle.node_model.specs.Carrying.{is_own_home}
 use Rattle.node_model.specs.Serving.{name_for, makes_something}
@@ -312,19 +314,19 @@ module _ (own most : ℕ) where
   effect-within k pid a (calls.MsgSnd id class text true) h family makes named own_is =
       named-within k (get k.queues id) (λ q. change_queue k id (send q pid class text)) h
       (λ q is. change-queue-within k id (send q pid class text) h
-      (λ next sent. sent-within pid class text q next (queue-is k id q h is) sent))
+      (λ next sent. queue-within-rule.sent q pid class text next (queue-is k id q h is) sent))
   effect-within k pid a (calls.MsgSnd id class text false) h family makes named own_is = tt
   effect-within k pid a (calls.MsgRcv id class size noerror true) h family makes named own_is =
       named-within k (get k.queues id) (λ q. receive_effect k id (receive q pid class size noerror)) h
       (λ q is. receive-effect-within k id (receive q pid class size noerror) h
-      (λ r taken. received-within pid class size noerror q r (queue-is k id q h is) taken))
+      (λ r taken. queue-within-rule.taken_from q pid class size noerror r (queue-is k id q h is) taken))
   effect-within k pid a (calls.MsgRcv id class size noerror false) h family makes named own_is = tt
   effect-within k pid a (calls.MsgStat id) h family makes named own_is =
       named-within k (get k.queues id) (stat_effect k) h (λ q is. record { kernel = h; child = tt })
   effect-within k pid a (calls.MsgSet id qbytes) h family makes named own_is =
       named-within k (get k.queues id) (λ q. change_queue k id (set_qbytes q qbytes)) h
       (λ q is. change-queue-within k id (set_qbytes q qbytes) h
-      (λ next limited. limited-within qbytes q next (queue-is k id q h is) limited))
+      (λ next limited. queue-within-rule.limited q qbytes next (queue-is k id q h is) limited))
   effect-within k pid a (calls.MsgRmid id) h family makes named own_is =
       named-within k (get k.queues id) (λ _. remove_queue k id) h (λ q is. remove-queue-within k id h)
   effect-within k pid a (calls.SemGet key count create excl) h family makes named own_is =
@@ -334,7 +336,7 @@ module _ (own most : ℕ) where
       (Some (on_named k (get k.sets id) (λ set. change_set k id (op set pid steps)))) (λ _. tt)
       (λ _. named-within k (get k.sets id) (λ set. change_set k id (op set pid steps)) h
       (λ s is. change-set-within k id (op s pid steps) h
-      (λ next done. operated-within pid steps s next (set-is k id s h is) done)))
+      (λ next done. set-within-rule.operated s pid steps next (set-is k id s h is) done)))
   effect-within k pid a (calls.SemGetVal id num) h family makes named own_is =
       named-within k (get k.sets id) (λ s. look_up k (value_at s num)) h (λ s is. look-within k (value_at s num) h)
   effect-within k pid a (calls.SemGetPid id num) h family makes named own_is =
@@ -346,12 +348,12 @@ module _ (own most : ℕ) where
   effect-within k pid a (calls.SemSetVal id num value) h family makes named own_is =
       named-within k (get k.sets id) (λ s. change_set k id (set_value s num value)) h
       (λ s is. change-set-within k id (set_value s num value) h
-      (λ next done. valued-within num value s next (set-is k id s h is) done))
+      (λ next done. set-within-rule.one_set s num value next (set-is k id s h is) done))
   effect-within k pid a (calls.SemGetAll id) h family makes named own_is =
       named-within k (get k.sets id) (all_values k) h (λ s is. record { kernel = h; child = tt })
   effect-within k pid a (calls.SemSetAll id values) h family makes named own_is =
       named-within k (get k.sets id) (λ s. change_set k id (set_all s values)) h
       (λ s is. change-set-within k id (set_all s values) h
-      (λ next done. all-valued-within values s next (set-is k id s h is) done))
+      (λ next done. set-within-rule.filled s values next (set-is k id s h is) done))
   effect-within k pid a (calls.SemRmid id) h family makes named own_is =
       named-within k (get k.sets id) (λ _. remove_set k id) h (λ s is. remove-set-within k id h)

@@ -2,7 +2,7 @@
 use Rattle.std.proofs.Common.{◌≡◌, ◌++◌, Option, Some, None, Result, Err, Ok, ℕ, true, not, ◌&&◌, nat_eq, refl, ◌≤◌, List, ◌+◌, [], ◌∷◌, map, arith, ap, subst}
 use Rattle.std.specs.List.{AllByRecursion}
 use Rattle.std.specs.Option.{option_and_then}
-use Rattle.kernel_laws.proofs.Plain.{by_test, Of, from_some}
+use Rattle.kernel_laws.proofs.Plain.{by_test, Of, from_some, of-map, of-some, of-next, of-test}
 use Rattle.kernel_model.specs.Numbers.{is_u32}
 use Rattle.kernel_model.specs.Row.{Row}
 use Rattle.kernel_model.specs.Script.{IsSoundScript}
@@ -15,7 +15,6 @@ use Rattle.limit_laws.proofs.Named.{deeds-put-all, held-is-numbered}
 use Rattle.limit_laws.proofs.NewNames.{own-row-within, own-answered-within, make-within}
 use Rattle.limit_laws.proofs.Routed.{route-call-within}
 use Rattle.limit_laws.proofs.Steps.{tables-within, with-node-within, send-within, serve-asked-within, with-deeds-within, step-to-within}
-use Rattle.limit_laws.proofs.Tables.{of-map, of-some, of-next, of-test}
 use Rattle.limit_laws.specs.Bodies.{IsFamilyWithin}
 use Rattle.limit_laws.specs.Within.{IsDeedWithin, IsNodeWithin, IsStepWithin, IsUnderWayWithin, asked_of}
 use Rattle.node_model.specs.Bodies.{Living as LivingBody}

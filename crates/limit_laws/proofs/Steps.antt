@@ -3,8 +3,8 @@ use Rattle.std.proofs.Common.{◌≡◌, ◌++◌, Option, Some, None, ℕ, true
 use Rattle.std.proofs.lemmas.Option.{slice_get_within}
 use Rattle.std.specs.List.{AllByRecursion}
 use Rattle.std.specs.Prelude.{if◌then◌else◌, slice_get}
-use Rattle.frame_bytes.specs.LimitTests.{is_frame, is_nonzero}
-use Rattle.kernel_laws.proofs.Plain.{by_test, Of, not_some}
+use Rattle.frame_bytes.specs.Limits.{is_frame, is_nonzero}
+use Rattle.kernel_laws.proofs.Plain.{by_test, Of, not_some, of-map, of-some}
 use Rattle.kernel_model.specs.Fitting.{asks_again, set_variable, value_in}
 use Rattle.kernel_model.specs.Script.{IsSoundScript}
 use Rattle.limit_laws.proofs.Carried.{IsServedWithin, others-not-own, serve-within}
@@ -13,7 +13,7 @@ use Rattle.limit_laws.proofs.Lengths.{grant-is-frame}
 use Rattle.limit_laws.proofs.Lines.{IsFineLine, lines-of-are-fine, lines-of-are-few}
 use Rattle.limit_laws.proofs.Named.{deeds-get, named-get, named-put, deeds-without, deeds-put-all, deeds-more}
 use Rattle.limit_laws.proofs.Replies.{fail-is-short}
-use Rattle.limit_laws.proofs.Tables.{of-map, all-both, of-some, all-at}
+use Rattle.kernel_laws.proofs.Lists.{all-both, all-at}
 use Rattle.limit_laws.proofs.Vars.{set-are-variables}
 use Rattle.limit_laws.specs.Within.{AreDeedsWithin, AreVariables, IsReplyShort, IsItemWithin, AreItemsWithin, IsPlaceWithin, IsDirectoryWithin, IsNodeWithin, IsSentWithin, IsStepWithin, SaysWithin}
 use Rattle.node_model.specs.Bodies.{Body, Deeds}

@@ -3,10 +3,10 @@ use Rattle.std.proofs.Common.{◌≡◌, ◌++◌, Option, Some, None, ℕ, Bool
 use Rattle.std.proofs.lemmas.Bool.{false≢true, and_parts, ltb-true, eqb-true}
 use Rattle.std.specs.List.{AllByRecursion, list_any}
 use Rattle.std.specs.Option.{option_map, option_and_then}
-use Rattle.std.specs.Prelude.{fold, if◌then◌else◌}
+use Rattle.std.specs.Prelude.{fold}
 use Rattle.frame_bytes.specs.Fields.{name_number}
-use Rattle.frame_bytes.specs.LimitTests.{is_frame, is_deed, is_nonzero, are_vars, is_call, has_fields}
-use Rattle.kernel_laws.proofs.Plain.{by_test, Of, not_some}
+use Rattle.frame_bytes.specs.Limits.{is_frame, is_deed, is_nonzero, are_vars, is_call, has_fields}
+use Rattle.kernel_laws.proofs.Plain.{by_test, Of, if-some, not_some, of-map, of-some, of-next, of-test}
 use Rattle.kernel_model.specs.Row.{Row, new_row}
 use Rattle.kernel_model.specs.Script.{Vars, IsSoundScript}
 use Rattle.kernel_model.specs.Waiting.{is_waiting}
@@ -20,7 +20,7 @@ use Rattle.limit_laws.proofs.Routed.{route-call-within, recall-from-within}
 use Rattle.limit_laws.proofs.Served.{no-family-within}
 use Rattle.limit_laws.proofs.Started.{ask-within, run-within}
 use Rattle.limit_laws.proofs.Steps.{tables-within, send-within, placed-within, serve-asked-within, serve-nobody-within, arrived-within, held-are-within, directory-within, step-to-within, few-lines, answered-within, leaving-within}
-use Rattle.limit_laws.proofs.Tables.{of-map, of-some, of-next, all-both, of-test}
+use Rattle.kernel_laws.proofs.Lists.{all-both}
 use Rattle.limit_laws.proofs.Vars.{none-are-variables, brought-are-variables}
 use Rattle.limit_laws.specs.Bodies.{IsFamilyWithin}
 use Rattle.limit_laws.specs.Laws.{HasVariables, SentFramesPass, OpeningNodesAreWithinLimits, TakingKeepsLimits, RunningKeepsLimits}
@@ -521,25 +521,19 @@ module _ (script : Script) (sound : IsSoundScript script) where
       take-left-within n sender parcel k (left-is-exit parcel f)
   take-turn-within n sender (frames.ExitTo parcel) k f ranges room = take-exit-within n sender parcel k f
 
--- what has a step passed the test
-passed-test : {X : Type 0} (test : Bool) (o : Option X) (x : X) → (if test then o else None) ≡ Some x
-    → (test ≡ true) × (o ≡ Some x)
-passed-test true o x is = (refl, is)
-passed-test false o x is = not_some x is
-
 -- a frame that comes is within the limits, and there is room for what it makes the node send
-frame-that-comes : (n : Node) (sender : ℕ) (frame : Frame) → may_come n sender frame ≡ true
+what-comes-is-within-and-has-room : (n : Node) (sender : ℕ) (frame : Frame) → may_come n sender frame ≡ true
     → (is_frame frame ≡ true) × (has_room_for n sender frame ≡ true)
 unfolding may_come
-frame-that-comes n sender frame may =
+what-comes-is-within-and-has-room n sender frame may =
     let first = and_parts (is_frame frame) (has_room_for n sender frame && is_given_out n frame) may
     in (first.0, (and_parts (has_room_for n sender frame) (is_given_out n frame) first.1).0)
 
 -- A node within limits that takes a frame stays so, and so is what it sends.
 pub taken-within : TakingKeepsLimits
 taken-within script n sender frame s sound k ranges is =
-    let taken = passed-test (may_come n sender frame) (take_by_kind script n sender frame) s is
-    in let come = frame-that-comes n sender frame taken.0
+    let taken = if-some (may_come n sender frame) (take_by_kind script n sender frame) s is
+    in let come = what-comes-is-within-and-has-room n sender frame taken.0
     in of-some (IsStepWithin script) (take_by_kind script n sender frame) s
     (take-turn-within script sound n sender frame k come.0 ranges come.1) taken.1
 

@@ -5,7 +5,7 @@ use Rattle.std.specs.List.{AllByRecursion}
 use Rattle.std.specs.Prelude.{nat_le}
 use Rattle.frame_bytes.specs.Fields.{rise_from}
 use Rattle.frame_bytes.specs.Frames.{have_order}
-use Rattle.frame_bytes.specs.LimitTests.{are_vars}
+use Rattle.frame_bytes.specs.Limits.{are_vars}
 use Rattle.kernel_model.specs.Fitting.{set_variable}
 use Rattle.kernel_model.specs.Script.{Vars, is_variable}
 use Rattle.limit_laws.proofs.Rises.{AreFrom, above-from}

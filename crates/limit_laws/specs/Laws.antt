@@ -4,7 +4,7 @@ use Rattle.std.specs.List.{AllByRecursion}
 use Rattle.pico_base.specs.declared.script.Script.{Script}
 use Rattle.rpc_frame.specs.declared.frame.Frame.{Frame}
 use Rattle.rpc_frame.specs.declared.frame.Frame.TheVariants as frames
-use Rattle.frame_bytes.specs.LimitTests.{is_frame}
+use Rattle.frame_bytes.specs.Limits.{is_frame}
 use Rattle.kernel_model.specs.Script.{IsSoundScript}
 use Rattle.limit_laws.specs.Within.{IsFrameWithin, IsNodeWithin, IsStepWithin}
 use Rattle.world_model.specs.Node.{Node, opening_node}

@@ -2,7 +2,7 @@
 -- nodes, of what is on its way, or of the kernel.
 use Rattle.std.specs.List.{AllByRecursion}
 use Rattle.std.specs.Prelude.{◌≡◌, ◌<◌, ◌≤◌, ℕ, true, false, List, length, Some}
-use Rattle.frame_bytes.specs.LimitTests.{is_frame, is_reply}
+use Rattle.frame_bytes.specs.Limits.{is_frame, is_reply}
 use Rattle.frame_bytes.specs.Replies.{reply_bytes}
 use Rattle.kernel_laws.specs.Queues.{IsQueueWithinLimits}
 use Rattle.kernel_laws.specs.Sets.{IsSetWithinLimits}

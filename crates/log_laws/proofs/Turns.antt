@@ -4,6 +4,7 @@ use Rattle.std.specs.List.{AllByRecursion}
 use Rattle.std.proofs.lemmas.Bool.{cases_eq, eq-eqb, ne_eqb, lt-ltb}
 use Rattle.pico_base.specs.declared.script.Script.{Script}
 use Rattle.rpc_frame.specs.declared.frame.Frame.{Frame}
+use Rattle.kernel_laws.proofs.Plain.{if-some}
 use Rattle.world_model.specs.Node.{Node, can_run, is_born}
 use Rattle.world_model.specs.Starting.{run}
 use Rattle.world_model.specs.Turn.{take_frame}
@@ -23,11 +24,6 @@ pub record Advances (script : Script) (ends : Ends) (w : World) (t : NodeTurn) (
   pub steps : step w (event_of t) ≡ Some next
   pub journal : next.journal ≡ w.journal ++ t.turn.step.entries
   pub halfway : IsHalfway script ends next now on_way turns
-
--- a value under a test: the test holds
-if-some : {A : Type 0} (b : Bool) (o : Option A) (x : A) → (if b then o else None) ≡ Some x → (b ≡ true) × (o ≡ Some x)
-if-some true o x h = (refl, h)
-if-some false o x h = absurd (cc)
 
 both-true : (a b : Bool) → a ≡ true → b ≡ true → (a && b) ≡ true
 both-true a b h g = rw (h, g) refl

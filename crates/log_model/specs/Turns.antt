@@ -5,8 +5,8 @@ use Rattle.std.specs.Option.{option_and_then}
 use Rattle.pico_base.specs.declared.script.Script.{Script}
 use Rattle.pico_base.specs.declared.reply.Entry.{Entry}
 use Rattle.rpc_frame.specs.declared.frame.Frame.{Frame}
-use Rattle.frame_bytes.specs.Frames.{IsFrame}
-use Rattle.frame_bytes.specs.LimitTests.{is_frame}
+use Rattle.frame_bytes.specs.Limits.{is_frame}
+use Rattle.frame_bytes.specs.Ranges.{IsFrame}
 use Rattle.journal_core.specs.declared.fault.AppendFault.TheVariants as append_faults
 use Rattle.journal_core.specs.Seated.{Seated, IsStamp, Appends, Refuses}
 use Rattle.world_model.specs.Node.{Node, is_born, can_run}

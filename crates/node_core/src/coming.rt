@@ -1,7 +1,7 @@
-//! Which frames may come, whatever sends them. A node that is asked by bytes from anyone stays within its limits by this,
-//! and so does all that it sends.
+//! Which frames may come, whatever sends them. A node that is asked by bytes from anyone stays within its limits by
+//! this, and so does all that it sends.
 ghost use Rattle.std.specs.Prelude.{◌≡◌, ◌&&◌};
-ghost use Rattle.frame_bytes.specs.LimitTests.{is_frame};
+ghost use Rattle.frame_bytes.specs.Limits.{is_frame};
 ghost use Rattle.world_model.specs.Turn.{has_room_for, is_given_out, may_come};
 ghost use Rattle.node_state.specs.State.{node_of};
 

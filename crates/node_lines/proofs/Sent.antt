@@ -7,9 +7,7 @@ use Rattle.rpc_frame.specs.declared.frame.Frame.{Frame}
 use Rattle.stream_pair.specs.declared.piece.Piece.{Piece}
 use Rattle.stream_pair.specs.Pieces.{pieces}
 use Rattle.frame_bytes.specs.Frames.{frame_bytes}
-use Rattle.frame_bytes.specs.LimitTests.{is_frame}
-use Rattle.frame_bytes.specs.Limits.{IsWithinLimits}
-use Rattle.frame_bytes.proofs.LimitTestLaws.{frame-passes}
+use Rattle.frame_bytes.specs.Limits.{IsWithinLimits, is_frame}
 use Rattle.piece_laws.specs.Pieces.{pieces_of, pieces_of_frame}
 use Rattle.log_laws.specs.Logs.{frame_if, sent_to, stamped}
 use Rattle.log_model.specs.Views.{Line}
@@ -93,7 +91,7 @@ pub may_send-within : (lines : List Line) (sends : List (ℕ × Frame)) (i : ℕ
 may_send-within lines [] i d h below = absurd (omega arith)
 may_send-within lines (s ∷ sends) zero d h below =
     let first = has_line lines s.0 && is_frame s.1 in
-    frame-passes s.1 (right-of (has_line lines s.0) (is_frame s.1) (left-of first (may_send lines sends) h))
+    right-of (has_line lines s.0) (is_frame s.1) (left-of first (may_send lines sends) h)
 may_send-within lines (s ∷ sends) (suc i) d h below =
     may_send-within lines sends i d
     (right-of (has_line lines s.0 && is_frame s.1) (may_send lines sends) h) (omega arith)

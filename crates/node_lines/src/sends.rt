@@ -1,8 +1,8 @@
 //! Frames to other nodes.
 ghost use Rattle.std.specs.Prelude.{◌≡◌, [], ◌∷◌, IsTrue, OnOk, map};
 ghost use Rattle.std.specs.List.{AllByRecursion};
-ghost use Rattle.frame_bytes.specs.Frames.{IsFrame};
 ghost use Rattle.frame_bytes.specs.Limits.{IsWithinLimits};
+ghost use Rattle.frame_bytes.specs.Ranges.{IsFrame};
 ghost use Rattle.log_model.specs.Turns.{has_line, may_send, with_sent};
 ghost use Rattle.node_lines.specs.Lines.{AreSameLines};
 

@@ -5,7 +5,7 @@ use Rattle.pico_base.specs.declared.reply.Entry.{Entry}
 use Rattle.pico_base.specs.declared.script.Event.{Event}
 use Rattle.rpc_frame.specs.declared.frame.Frame.{Frame}
 use Rattle.stamp_merge.specs.declared.Stamped.{Stamped}
-use Rattle.frame_bytes.specs.Frames.{IsFrame}
+use Rattle.frame_bytes.specs.Ranges.{IsFrame}
 use Rattle.world_model.specs.Node.{Node}
 use Rattle.world_model.specs.Step.{Step}
 use Rattle.log_model.specs.declared.answer.LogFault.{LogFault}

@@ -1,5 +1,5 @@
 -- Where a node's process is in its block, and its call under way.
-use Rattle.std.specs.Prelude.{ℕ, ◌+◌, ◌&&◌, nat_lt, List, [], drop, if◌then◌else◌, Option, Some, None, slice_get}
+use Rattle.std.specs.Prelude.{ℕ, ◌+◌, List, [], drop, if◌then◌else◌, Option, Some, None, slice_get}
 use Rattle.pico_base.specs.declared.call.Call.{Call}
 use Rattle.pico_base.specs.declared.call.Call.TheVariants as calls
 use Rattle.pico_base.specs.declared.reply.Reply.{Reply}
@@ -8,7 +8,7 @@ use Rattle.pico_base.specs.declared.script.Block.{Block}
 use Rattle.pico_base.specs.declared.script.Script.{Script}
 use Rattle.pico_base.specs.declared.signal.Sig.{Sig}
 use Rattle.kernel_model.specs.Script.{Vars}
-use Rattle.kernel_model.specs.Fitting.{Place, due, asks_again, set_variable, value_in, with_exit, block_at}
+use Rattle.kernel_model.specs.Fitting.{Place, due, is_due_again, vars_after, with_exit, block_at}
 
 -- The lines passed, how often the line reached was tried, the variables, how many calls were started, and the call
 -- under way, from its start until its reply is here.
@@ -49,14 +49,9 @@ end_call c = record c { under_way = None }
 abbrev pub answer_at : Caller → Call → Reply → Option Line → Caller
 answer_at c call reply None = end_call c
 answer_at c call reply (Some line) =
-    if asks_again call (Some reply) && nat_lt (c.tried + 1) line.tries
+    if is_due_again call reply c.tried line.tries
     then record (end_call c) { tried = c.tried + 1 }
-    else record (end_call c) {
-      line = c.line + 1;
-      tried = 0;
-      vars =
-          set_variable c.vars line.set (value_in (Some reply));
-    }
+    else record (end_call c) { line = c.line + 1; tried = 0; vars = vars_after c.vars line.set reply }
 
 abbrev pub answer_call : Script → ℕ → Caller → Call → Reply → Caller
 answer_call script block c call reply = answer_at c call reply (slice_get (lines_of script block) c.line)

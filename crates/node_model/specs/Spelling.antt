@@ -96,26 +96,23 @@ abbrev pub read_ending : List ℕ → Option Ending
 read_ending (kind ∷ value ∷ []) = ending_from kind value
 read_ending _ = None
 
-abbrev pub gone_if : List ℕ → Option Body
-gone_if [] = Some Gone
-gone_if _ = None
-
-abbrev pub removed_if : List ℕ → Option Body
-removed_if [] = Some Removed
-removed_if _ = None
+-- a body that is its code alone
+abbrev pub alone : Body → List ℕ → Option Body
+alone body [] = Some body
+alone body _ = None
 
 unfoldable pub read_process : ℕ → List ℕ → Option Body
 read_process code bytes =
     if code == 1 then option_map Living (read_row bytes)
     else if code == 2 then option_map Ended (read_ending bytes)
-    else if code == 3 then gone_if bytes
+    else if code == 3 then alone Gone bytes
     else None
 
 unfoldable pub read_queue : ℕ → List ℕ → Option Body
-read_queue code bytes = if code == 6 then removed_if bytes else option_map AQueue (queue_at (code ∷ bytes))
+read_queue code bytes = if code == 6 then alone Removed bytes else option_map AQueue (queue_at (code ∷ bytes))
 
 unfoldable pub read_set : ℕ → List ℕ → Option Body
-read_set code bytes = if code == 6 then removed_if bytes else option_map ASet (set_at (code ∷ bytes))
+read_set code bytes = if code == 6 then alone Removed bytes else option_map ASet (set_at (code ∷ bytes))
 
 -- the body of these bytes, of a kind that goes with the name
 unfoldable pub read_body : Name → List ℕ → Option Body

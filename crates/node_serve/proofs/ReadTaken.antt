@@ -34,7 +34,7 @@ use Rattle.kernel_model.specs.SemaphoreSet.{SemaphoreSet}
 use Rattle.kernel_model.specs.Row.{Family}
 use Rattle.kernel_model.specs.Row as kernel
 use Rattle.node_model.specs.Bodies as model
-use Rattle.node_model.specs.Spelling.{are_children, are_signals, family_if, gone_if, is_default, read_body, read_ending, read_family, read_process, read_queue, read_row, read_set, read_signals, removed_if, row_with, signals_from, signals_if}
+use Rattle.node_model.specs.Spelling.{alone, are_children, are_signals, family_if, is_default, read_body, read_ending, read_family, read_process, read_queue, read_row, read_set, read_signals, row_with, signals_from, signals_if}
 use Rattle.node_serve.specs.declared.body.Row.{Row}
 use Rattle.node_serve.specs.declared.body.Body.{Body}
 use Rattle.node_serve.specs.declared.body.Body.TheVariants.{Living, Ended, Gone, Queue, Set, Removed}
@@ -239,7 +239,7 @@ process-by : (pid code : ℕ) (bytes : List ℕ) (body : model.Body) (a b c : Bo
     → (code == 2) ≡ b → (code == 3) ≡ c
     → (if a then option_map model.Living (read_row bytes)
     else if b then option_map model.Ended (read_ending bytes)
-    else if c then gone_if bytes
+    else if c then alone model.Gone bytes
     else None) ≡ Some body
     → IsReadAs (Proc pid) (code ∷ bytes) body
 process-by pid code bytes body true b c fits first second third read =
@@ -273,7 +273,7 @@ process-by pid code (x ∷ bytes) body false false true fits first second third 
 process-by pid code bytes body false false false fits first second third read = absurd (cc)
 
 queue-by : (id code : ℕ) (bytes : List ℕ) (body : model.Body) (a : Bool) → IsBytes (code ∷ bytes) → (code == 6) ≡ a
-    → (if a then removed_if bytes else option_map model.AQueue (queue_at (code ∷ bytes))) ≡ Some body
+    → (if a then alone model.Removed bytes else option_map model.AQueue (queue_at (code ∷ bytes))) ≡ Some body
     → IsReadAs (Msg id) (code ∷ bytes) body
 queue-by id code [] body true fits six read =
     record {
@@ -293,7 +293,7 @@ queue-by id code bytes body false fits six read =
     }
 
 set-by : (id code : ℕ) (bytes : List ℕ) (body : model.Body) (a : Bool) → IsBytes (code ∷ bytes) → (code == 6) ≡ a
-    → (if a then removed_if bytes else option_map model.ASet (set_at (code ∷ bytes))) ≡ Some body
+    → (if a then alone model.Removed bytes else option_map model.ASet (set_at (code ∷ bytes))) ≡ Some body
     → IsReadAs (Sem id) (code ∷ bytes) body
 set-by id code [] body true fits six read =
     record {

@@ -22,6 +22,10 @@ put m k v = insert_entry nat_cmp m k v
 abbrev pub without : {V : Type 0} → Numbered V → ℕ → Numbered V
 without m k = filter (λ e. not (nat_eq k e.0)) m
 
+-- the map without each value of this number
+abbrev pub without_value : {V : Type 0} → (V → ℕ) → Numbered V → ℕ → Numbered V
+without_value number m n = filter (λ e. not (nat_eq (number e.1) n)) m
+
 -- the number is in the set
 abbrev pub is_used : List ℕ → ℕ → Bool
 is_used used n = list_any (nat_eq n) used

@@ -2,14 +2,15 @@
 use Rattle.std.proofs.Common.{[], ◌∷◌, refl, arith}
 use Rattle.rpc_frame.specs.declared.frame.Frame.TheVariants as frames
 use Rattle.stream_pair.specs.Pieces.{piece}
-use Rattle.frame_bytes.specs.Frames.{IsFrame, frame_bytes}
+use Rattle.frame_bytes.specs.Frames.{frame_bytes}
+use Rattle.frame_bytes.specs.Ranges.{IsFrame}
 use Rattle.frame_bytes.specs.Streams.{Rest}
 use Rattle.log_laws.specs.Logs.{stamped}
 use Rattle.piece_laws.specs.Pieces.{pieces_of, Took, TookNothing, TookPart, TookFrame}
 use Rattle.piece_laws.proofs.Readings.{a_frame_is_read, a_front_is_no_frame}
 
 recall_all_is_a_frame : IsFrame frames.RecallAll
-recall_all_is_a_frame = record { fields = tt; short = omega arith }
+recall_all_is_a_frame = record { ranges = tt; within = refl }
 
 -- its one piece completes it, and the joiner has nothing left
 one_piece : Took (pieces_of (stamped 7 frames.RecallAll ∷ [])) (stamped 7 frames.RecallAll ∷ []) (Rest [])

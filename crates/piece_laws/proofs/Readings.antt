@@ -9,8 +9,10 @@ use Rattle.rpc_frame.specs.declared.frame.Frame.{Frame}
 use Rattle.frame_bytes.specs.declared.fault.FrameFault.{FrameFault}
 use Rattle.frame_bytes.specs.declared.fault.FrameFault.TheVariants.{Memory, TooLong, NotAFrame}
 use Rattle.frame_bytes.specs.Fields.{word}
-use Rattle.frame_bytes.specs.Frames.{IsFrame, frame_body, frame_bytes}
+use Rattle.frame_bytes.specs.Frames.{frame_body, frame_bytes}
+use Rattle.frame_bytes.specs.Ranges.{IsFrame}
 use Rattle.frame_bytes.specs.Streams.{IsPartial, Left, Rest, Broken, Splits, Feeds}
+use Rattle.frame_bytes.proofs.FrameLaws.{frame-short}
 use Rattle.frame_bytes.proofs.StreamLaws.{one-reading}
 
 -- the bytes of a frame are that frame, and nothing is left
@@ -48,7 +50,7 @@ front_is_partial f front behind h e more =
             len = length (frame_body f);
             more = drop 4 front;
             spelled = cut_begins_with_length front behind (frame_body f) (length (frame_body f)) e long;
-            short = h.short;
+            short = frame-short f h;
             cut = omega (arith, total, size, long, more);
           }
           )

@@ -10,7 +10,8 @@ use Rattle.stream_pair.proofs.Cuts.{the_pieces_are_the_bytes}
 use Rattle.frame_bytes.specs.declared.fault.FrameFault.{FrameFault}
 use Rattle.frame_bytes.specs.declared.fault.FrameFault.TheVariants.{Memory, TooLong, NotAFrame}
 use Rattle.frame_bytes.specs.Fields.{word}
-use Rattle.frame_bytes.specs.Frames.{IsFrame, frame_body, frame_bytes}
+use Rattle.frame_bytes.specs.Frames.{frame_body, frame_bytes}
+use Rattle.frame_bytes.specs.Ranges.{IsFrame}
 use Rattle.frame_bytes.specs.Streams.{Left, Rest, Splits, Feeds}
 use Rattle.log_laws.specs.Logs.{StampedFrame, stamped}
 use Rattle.piece_laws.specs.Pieces.{pieces_of_frame, pieces_of, bytes_of, AreFrames, Took, TookNothing, TookPart, TookFrame}

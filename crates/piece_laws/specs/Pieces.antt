@@ -4,7 +4,8 @@ use Rattle.std.specs.List.{flat_map, AllByRecursion}
 use Rattle.rpc_frame.specs.declared.frame.Frame.{Frame}
 use Rattle.stream_pair.specs.declared.piece.Piece.{Piece}
 use Rattle.stream_pair.specs.Pieces.{pieces}
-use Rattle.frame_bytes.specs.Frames.{IsFrame, frame_bytes}
+use Rattle.frame_bytes.specs.Frames.{frame_bytes}
+use Rattle.frame_bytes.specs.Ranges.{IsFrame}
 use Rattle.frame_bytes.specs.Streams.{Left, Rest, Feeds}
 use Rattle.log_laws.specs.Logs.{StampedFrame, stamped}
 

@@ -16,7 +16,7 @@ use Rattle.signal_state.specs.Spelling.{signal_bytes}
 use Rattle.fork_wait.specs.Spelling.{family_bytes}
 use Rattle.fork_wait.specs.Reading.{family_at, numbers_at, all_ended_at, ended_at}
 use Rattle.body_fields.specs.Fields.{byte_upto, number_upto}
-use Rattle.sysv_msg.specs.Reading.{text_at, class_at, message_at, messages_at, fields_at as queue_fields_at, queue_at}
+use Rattle.sysv_msg.specs.Reading.{text_at, class_at, message_at, messages_at, all_messages_at, fields_at as queue_fields_at, queue_at}
 use Rattle.sysv_sem.specs.Reading.{semaphore_at, semaphores_at, fields_at as set_fields_at, counted_at, set_at}
 
 -- in how many places the call of a node is, and how many replies are on their way to it
@@ -57,14 +57,14 @@ answered_events = Run 1 ∷ Run 1 ∷ Run 1 ∷ Take 2 1 ∷ Run 1 ∷ Run 2 ∷
 pub is_asked : counts_after both_find_nothing asked_events 2 ≡ Some (counts 1 0)
 unfolding may_come read_deed read_body body_bytes row_bytes read_process read_row read_signals
     read_family read_queue read_set signal_bytes family_bytes family_at numbers_at all_ended_at ended_at
-    byte_upto number_upto text_at class_at message_at messages_at queue_fields_at queue_at semaphore_at
+    byte_upto number_upto text_at class_at message_at messages_at all_messages_at queue_fields_at queue_at semaphore_at
     semaphores_at set_fields_at counted_at set_at
 is_asked = refl
 
 pub is_answered : counts_after both_find_nothing answered_events 2 ≡ Some (counts 0 1)
 unfolding may_come read_deed read_body body_bytes row_bytes read_process read_row read_signals
     read_family read_queue read_set signal_bytes family_bytes family_at numbers_at all_ended_at ended_at
-    byte_upto number_upto text_at class_at message_at messages_at queue_fields_at queue_at semaphore_at
+    byte_upto number_upto text_at class_at message_at messages_at all_messages_at queue_fields_at queue_at semaphore_at
     semaphores_at set_fields_at counted_at set_at
 is_answered = refl
 
@@ -79,14 +79,14 @@ held_events =
 pub is_held : counts_after owner_exits held_events 3 ≡ Some (counts 1 0)
 unfolding may_come read_deed read_body body_bytes row_bytes read_process read_row read_signals
     read_family read_queue read_set signal_bytes family_bytes family_at numbers_at all_ended_at ended_at
-    byte_upto number_upto text_at class_at message_at messages_at queue_fields_at queue_at semaphore_at
+    byte_upto number_upto text_at class_at message_at messages_at all_messages_at queue_fields_at queue_at semaphore_at
     semaphores_at set_fields_at counted_at set_at
 is_held = refl
 
 pub is_in_parcel : counts_after owner_exits held_events 2 ≡ Some (counts 1 0)
 unfolding may_come read_deed read_body body_bytes row_bytes read_process read_row read_signals
     read_family read_queue read_set signal_bytes family_bytes family_at numbers_at all_ended_at ended_at
-    byte_upto number_upto text_at class_at message_at messages_at queue_fields_at queue_at semaphore_at
+    byte_upto number_upto text_at class_at message_at messages_at all_messages_at queue_fields_at queue_at semaphore_at
     semaphores_at set_fields_at counted_at set_at
 is_in_parcel = refl
 
@@ -106,6 +106,6 @@ one_is_taken = refl
 pub comes_in_lease : free_after owner_exits (Run 1 ∷ Take 2 1 ∷ Run 2 ∷ Take 1 2 ∷ []) kinds.Msg 1 ≡ Some 1
 unfolding may_come read_deed read_body body_bytes row_bytes read_process read_row read_signals
     read_family read_queue read_set signal_bytes family_bytes family_at numbers_at all_ended_at ended_at
-    byte_upto number_upto text_at class_at message_at messages_at queue_fields_at queue_at semaphore_at
+    byte_upto number_upto text_at class_at message_at messages_at all_messages_at queue_fields_at queue_at semaphore_at
     semaphores_at set_fields_at counted_at set_at
 comes_in_lease = refl

@@ -12,10 +12,10 @@ use Rattle.world_model.specs.Run.{IsReachableWorld, Runs}
 use Rattle.world_model.specs.Step.{Step}
 use Rattle.world_model.specs.Starting.{run}
 use Rattle.world_model.specs.Turn.{may_come, take_by_kind, take_frame}
-use Rattle.world_model.specs.World.{World, after_turn, is_enabled, node_at, node_count, numbers, opening_world, runs_at, step, stream, takes_at, world_after}
+use Rattle.world_model.specs.World.{World, after_turn, is_enabled, node_at, node_count, numbers, opening_world, runs_at, step, world_after}
 use Rattle.world_laws.specs.Invariant.{IsShaped}
 use Rattle.world_laws.specs.Sights.{node_of}
-use Rattle.world_laws.proofs.Steps.{Heads, node-there, world_without}
+use Rattle.world_laws.proofs.Steps.{Heads, node-there, turn-with, world_without}
 use Rattle.rule_laws.proofs.own.Enabled.{IsRun, enabled-runs}
 use Rattle.rule_laws.proofs.Enabled.{IsTaken, enabled-takes}
 use Rattle.bound_laws.proofs.Runs.{opening-is-shaped-and-bounded}
@@ -118,11 +118,7 @@ module _ (script : Script) (sound : IsSoundScript script) where
       in let shape : IsShaped script w = b.shape
       in turn-leaves script (world_without w p q t.rest) k p h.low (subst (λ n. p ≤ n) (sym shape.nodes) h.high) next
       (take_frame script (node_of w p) q t.frame)
-      (sym (ap (λ o. takes_at w p q o (stream w p q)) (node-there script w shape p h.low h.high)
-      ∙ ap (takes_at w p q (Some (node_of w p))) h.head
-      ∙ ap (λ (x : Script). after_turn (world_without w p q t.rest) p (take_frame x (node_of w p) q t.frame))
-      shape.of_script)
-      ∙ steps)
+      (sym (turn-with take_frame script w p q t.frame t.rest shape h) ∙ steps)
       (λ other.
       of-those (IsFollower script (node_of w p) other) (may_come (node_of w p) q t.frame)
       (take_by_kind script (node_of w p) q t.frame)

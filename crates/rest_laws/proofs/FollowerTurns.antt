@@ -21,7 +21,7 @@ use Rattle.rpc_frame.specs.declared.deed.Parcel.{Parcel}
 use Rattle.rpc_frame.specs.declared.frame.Frame.{Frame}
 use Rattle.rpc_frame.specs.declared.frame.Frame.TheVariants as frames
 use Rattle.number_maps.specs.Maps.{Numbered}
-use Rattle.kernel_laws.proofs.Plain.{Of, by_test}
+use Rattle.kernel_laws.proofs.Plain.{Of, by_test, of-map, of-next, of-test}
 use Rattle.kernel_model.specs.Script.{Vars}
 use Rattle.kernel_model.specs.Waiting.{is_waiting}
 use Rattle.node_model.specs.Bodies.{Body, Living as LivingBody}
@@ -41,7 +41,6 @@ use Rattle.world_model.specs.Serving.{serve_asked, serve_nobody, without_deed}
 use Rattle.world_model.specs.Starting.{run}
 use Rattle.world_model.specs.Step.{Step, send, step_to, with_deeds}
 use Rattle.world_model.specs.Turn.{take_by_kind}
-use Rattle.bound_laws.proofs.Parts.{of-map, of-next, of-test}
 use Rattle.rest_laws.proofs.Followers.{IsFollower, all-sent-follow, ask-follows, entered-follows, from-it, make-follows, run-follows, sent-follows, serve-asked-follows, serve-nobody-follows}
 
 first-of-two : (a b : Bool) → (a && b) ≡ true → a ≡ true

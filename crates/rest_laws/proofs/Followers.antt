@@ -20,7 +20,7 @@ use Rattle.pico_base.specs.Home.{home_of}
 use Rattle.rpc_frame.specs.declared.asked.Asked.{Asked}
 use Rattle.rpc_frame.specs.declared.frame.Frame.{Frame}
 use Rattle.rpc_frame.specs.declared.frame.Frame.TheVariants as frames
-use Rattle.kernel_laws.proofs.Plain.{Of, by_test}
+use Rattle.kernel_laws.proofs.Plain.{Of, by_test, of-map, of-next, of-some, of-test}
 use Rattle.kernel_model.specs.Fitting.{child_vars}
 use Rattle.kernel_model.specs.Numbers.{is_u32}
 use Rattle.kernel_model.specs.Queue.{empty_queue}
@@ -43,7 +43,6 @@ use Rattle.world_model.specs.Routes.{route_call}
 use Rattle.world_model.specs.Serving.{grant, move_to, note_read, serve_asked, serve_asked_with, serve_nobody}
 use Rattle.world_model.specs.Starting.{act, ask, carry_out_own, end_leader, leave, request, run, start, start_at, start_by, start_due, start_end, start_making, start_own, start_set, with_look}
 use Rattle.world_model.specs.Step.{Step, carry_out, enter, reply_here, reply_to, send, step_to, with_deeds, with_directory, with_node}
-use Rattle.bound_laws.proofs.Parts.{of-map, of-next, of-some, of-test}
 
 module _ (script : Script) (n : Node) (other : is_leader n ≡ false) where
   -- The step's node has the number of this one, and knows the same of the leader's.

@@ -47,7 +47,7 @@ use Rattle.world_laws.proofs.Changes.{Changes, filter-is-list-map, flat_map-is-l
 use Rattle.world_laws.proofs.LeftAlone.{LeavesName, LeavesCall, same-directory, name-left-alone, call-left-alone, parcel-was-there, sender-stays, kind-left-alone, other-node-stays, frames-still-fit, few-still}
 use Rattle.world_laws.proofs.Steps.{KeepsAs, Heads, world_without, take-steps, changes-by-take}
 use Rattle.world_laws.proofs.NameFacts.{play-comes, begins-with, has_left, plays-by}
-use Rattle.world_laws.proofs.Lines.{all-at}
+use Rattle.kernel_laws.proofs.Lists.{all-at}
 use Rattle.world_laws.proofs.Heads.{head-is, head-may-be, head-from-another, rest-stays, others-stay}
 use Rattle.rule_laws.proofs.Grants.{IsAlone, is-alone}
 

@@ -48,7 +48,7 @@ use Rattle.world_laws.specs.Runnable.{IsRunnable}
 use Rattle.world_laws.proofs.Named.{name-cases, other-name, get-put-same-name, get-put-other-name}
 use Rattle.world_laws.proofs.NewRanges.{in-lease-again}
 use Rattle.world_laws.proofs.Stays.{SameName, name-stays, SameCall, call-stays, SameKind, kind-stays}
-use Rattle.world_laws.proofs.Lines.{all-at}
+use Rattle.kernel_laws.proofs.Lists.{all-at}
 use Rattle.rule_laws.proofs.Births.{first-lines}
 
 -- ---- what stands beside it

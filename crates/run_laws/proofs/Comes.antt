@@ -1,5 +1,5 @@
--- In the world of a run each frame that a node may take passes the test of what may come: it is within the limits, there
--- is room for what it makes the node send, and no process comes whose number the node has still to give.
+-- In the world of a run each frame that a node may take passes the test of what may come: it is within the limits,
+-- there is room for what it makes the node send, and no process comes whose number the node has still to give.
 use Rattle.std.proofs.Common.{◌≡◌, ℕ, ◌≤◌, Bool, true, false, not, ◌&&◌, if◌then◌else◌, List, [], ◌∷◌, length, refl, ap, sym, subst, ◌∙◌, arith}
 use Rattle.std.specs.List.{AllByRecursion}
 use Rattle.std.proofs.lemmas.Bool.{lt-ltb}
@@ -10,7 +10,7 @@ use Rattle.pico_base.specs.declared.script.Script.{Script}
 use Rattle.rpc_frame.specs.declared.deed.Parcel.{Parcel}
 use Rattle.rpc_frame.specs.declared.frame.Frame.{Frame}
 use Rattle.rpc_frame.specs.declared.frame.Frame.TheVariants as frames
-use Rattle.frame_bytes.specs.LimitTests.{is_frame}
+use Rattle.frame_bytes.specs.Limits.{is_frame}
 use Rattle.kernel_model.specs.Script.{IsSoundScript}
 use Rattle.entry_laws.specs.Entering.{is_used_name}
 use Rattle.node_model.specs.Bodies.{body_in}

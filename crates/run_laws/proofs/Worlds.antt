@@ -29,7 +29,7 @@ use Rattle.weight_laws.proofs.Law.{each-run-falls}
 use Rattle.weight_laws.proofs.LightEvents.{KeepsLightly}
 use Rattle.weight_laws.proofs.LightRuns.{EachKeepsLightly, light-runs-are-short}
 
--- what it has beside the invariant
+-- what each world of a run has beside the invariant
 pub record IsRoomy (script : Script) (w : World) : Type 0 where
   pub bounded : IsShapedAndBounded script w
   pub within : IsWorldWithin script w
@@ -37,8 +37,7 @@ pub record IsRoomy (script : Script) (w : World) : Type 0 where
 -- What each world of a run has.
 pub record IsSettled (script : Script) (w : World) : Type 0 where
   pub invariant : HasInvariant script w
-  pub bounded : IsShapedAndBounded script w
-  pub within : IsWorldWithin script w
+  pub roomy : IsRoomy script w
 
 -- The event has a step, after which the world has it again.
 pub record StaysSettled (script : Script) (w : World) (e : Event) : Type 0 where
@@ -47,13 +46,24 @@ pub record StaysSettled (script : Script) (w : World) (e : Event) : Type 0 where
   pub settled : IsSettled script next
 
 module _ (script : Script) (sound : IsSoundScript script) where
+  opening-is-roomy : IsRoomy script (opening_world script)
+  opening-is-roomy =
+      record { bounded = opening-is-shaped-and-bounded script sound; within = opening-is-within script }
+
+  event-stays-roomy : (w next : World) (e : Event) → IsRoomy script w → is_enabled w e ≡ true → step w e ≡ Some next
+      → IsRoomy script next
+  event-stays-roomy w next e k enabled is =
+      record {
+        bounded = event-stays-bounded script sound w next k.bounded e enabled is;
+        within = event-keeps-limits script w next e sound k.bounded k.within enabled is;
+      }
+
   -- The opening world has it.
   pub opening-is-settled : IsSettled script (opening_world script)
   opening-is-settled =
       record {
         invariant = record { beside = _; holds = opening-holds script (sound-is-runnable script sound) };
-        bounded = opening-is-shaped-and-bounded script sound;
-        within = opening-is-within script;
+        roomy = opening-is-roomy;
       }
 
   run-lightly : (w : World) (b : Beside) (p : ℕ) → Holds script w [] b → IsShapedAndBounded script w
@@ -85,18 +95,18 @@ module _ (script : Script) (sound : IsSoundScript script) where
       → StaysSettled script w e
   event-stays-settled w e k enabled =
       let kept : KeepsLightly script w e k.invariant.beside =
-      event-keeps-lightly w k.invariant.beside e k.invariant.holds k.bounded enabled
+      event-keeps-lightly w k.invariant.beside e k.invariant.holds k.roomy.bounded enabled
       in let s : KeepsAs script w e kept.beside = kept.keeps
-      in let bounds : IsShapedAndBounded script w = k.bounded
+      in let bounds : IsShapedAndBounded script w = k.roomy.bounded
       in let is_step : step w e ≡ Some s.next =
-      enabled-by-rules script sound w k.invariant.beside k.invariant.holds bounds.bounded k.within e enabled ∙ s.is_step
+      enabled-by-rules script sound w k.invariant.beside k.invariant.holds bounds.bounded k.roomy.within e enabled
+      ∙ s.is_step
       in record {
         next = s.next;
         is_step = is_step;
         settled = record {
           invariant = record { beside = kept.beside; holds = s.holds };
-          bounded = event-stays-bounded script sound w s.next bounds e enabled is_step;
-          within = event-keeps-limits script w s.next e sound bounds k.within enabled is_step;
+          roomy = event-stays-roomy w s.next e k.roomy enabled is_step;
         };
       }
 
@@ -114,11 +124,5 @@ module _ (script : Script) (sound : IsSoundScript script) where
   -- And a run is short.
   pub settled-runs-are-short : RunsAreShort script
   settled-runs-are-short =
-      light-runs-are-short script (IsRoomy script)
-      (λ w next e besides enabled is.
-      record {
-        bounded = event-stays-bounded script sound w next besides.bounded e enabled is;
-        within = event-keeps-limits script w next e sound besides.bounded besides.within enabled is;
-      })
-      each-keeps-lightly _ (opening-holds script (sound-is-runnable script sound))
-      (record { bounded = opening-is-shaped-and-bounded script sound; within = opening-is-within script }) (λ p. refl)
+      light-runs-are-short script (IsRoomy script) event-stays-roomy each-keeps-lightly _
+      (opening-holds script (sound-is-runnable script sound)) opening-is-roomy (λ p. refl)

@@ -1,19 +1,17 @@
 -- What is read is a body of it, and a body is read as its queue.
-use Rattle.std.proofs.Common.{◌≡◌, ℕ, ◌^◌, Bool, true, false, cond, eqb, List, [], ◌∷◌, ◌++◌, length, Option, Some, None, refl, sym, ap, subst, ◌∙◌, append_assoc, arith}
+use Rattle.std.proofs.Common.{◌≡◌, ℕ, ◌^◌, Bool, eqb, List, [], ◌∷◌, ◌++◌, length, Option, Some, None, refl, sym, ap, subst, ◌∙◌, append_assoc, arith}
 use Rattle.std.specs.Prelude.{is_some}
 use Rattle.std.specs.List.{flat_map}
 use Rattle.std.specs.Int.{w16, w32, to_be_bytes}
 use Rattle.std.proofs.lemmas.Bool.{eqb-true}
-use Rattle.std.proofs.lemmas.List.{append-nil, nil_from_length}
 use Rattle.pico_base.specs.Options.{◌>>=◌}
 use Rattle.kernel_model.specs.Queue.{Message, Queue, max_queue_bytes, max_messages}
 use Rattle.sysv_msg.specs.Body.{queue_code, message_field, IsBodyOf}
-use Rattle.body_fields.specs.Fields.{number_at, number_upto}
-use Rattle.sysv_msg.specs.Measured.{HasFields, all_messages, queue_with}
-use Rattle.sysv_msg.specs.Packed.{TellsPacked}
-use Rattle.sysv_msg.specs.Reading.{messages_at, fields_at, queue_at}
-use Rattle.body_fields.proofs.Fields.{IsBytes, IsBytes-rest, bind_some, guard_ended, guard_then, some_is, refused, Takes-then, wide16, wide32, number_takes, number_again, number_upto_takes, number_upto_again}
-use Rattle.sysv_msg.proofs.Messages.{messages_take, messages_again}
+use Rattle.body_fields.specs.Fields.{TellsPacked, number_at, number_upto}
+use Rattle.sysv_msg.specs.Measured.{HasFields, queue_with}
+use Rattle.sysv_msg.specs.Reading.{all_messages_at, fields_at, queue_at}
+use Rattle.body_fields.proofs.Fields.{IsBytes, IsBytes-rest, bind_some, guard_then, some_is, refused, Takes-then, wide16, wide32, number_takes, number_again, number_upto_takes, number_upto_again}
+use Rattle.sysv_msg.proofs.Messages.{all_theirs, messages_again}
 
 abbrev num : ℕ → List ℕ
 num n = to_be_bytes w32 n
@@ -24,55 +22,29 @@ small n = to_be_bytes w16 n
 fields_take : (bytes : List ℕ) (q : Queue) → IsBytes bytes → fields_at bytes ≡ Some q → IsBodyOf q (queue_code ∷ bytes)
 unfolding fields_at
 fields_take bytes q fits e =
-    let a = bind_some (number_upto w32 max_queue_bytes bytes)
-    (λ qbytes. number_at w32 qbytes.1 >>= λ sender. number_at w32 sender.1 >>= λ receiver.
-    number_upto w16 max_messages receiver.1 >>= λ count. messages_at count.0 max_queue_bytes count.1 >>= λ messages.
-    cond (eqb (length messages.1) 0)
-    (Some (record { messages = messages.0; qbytes = qbytes.0; last_sender = sender.0; last_receiver = receiver.0 }))
-    None) q e in
-    let b = bind_some (number_at w32 a.0.1)
-    (λ sender. number_at w32 sender.1 >>= λ receiver. number_upto w16 max_messages receiver.1 >>= λ count.
-    messages_at count.0 max_queue_bytes count.1 >>= λ messages.
-    cond (eqb (length messages.1) 0)
-    (Some (record { messages = messages.0; qbytes = a.0.0; last_sender = sender.0; last_receiver = receiver.0 }))
-    None) q a.2 in
-    let c = bind_some (number_at w32 b.0.1)
-    (λ receiver. number_upto w16 max_messages receiver.1 >>= λ count.
-    messages_at count.0 max_queue_bytes count.1 >>= λ messages.
-    cond (eqb (length messages.1) 0)
-    (Some (record { messages = messages.0; qbytes = a.0.0; last_sender = b.0.0; last_receiver = receiver.0 })) None)
-    q b.2 in
-    let d = bind_some (number_upto w16 max_messages c.0.1)
-    (λ count. messages_at count.0 max_queue_bytes count.1 >>= λ messages.
-    cond (eqb (length messages.1) 0)
-    (Some (record { messages = messages.0; qbytes = a.0.0; last_sender = b.0.0; last_receiver = c.0.0 })) None) q
-    c.2 in
-    let f = bind_some (messages_at d.0.0 max_queue_bytes d.0.1)
-    (λ messages. cond (eqb (length messages.1) 0)
-    (Some (record { messages = messages.0; qbytes = a.0.0; last_sender = b.0.0; last_receiver = c.0.0 })) None) q
-    d.2 in
-    let made : Queue = record { messages = f.0.0; qbytes = a.0.0; last_sender = b.0.0; last_receiver = c.0.0 } in
-    let g = guard_ended (eqb (length f.0.1) 0) made q f.2 in
+    let a = bind_some (number_upto w32 max_queue_bytes bytes) _ q e in
+    let b = bind_some (number_at w32 a.0.1) _ q a.2 in
+    let c = bind_some (number_at w32 b.0.1) _ q b.2 in
+    let d = bind_some (number_upto w16 max_messages c.0.1) _ q c.2 in
+    let f = bind_some (all_messages_at d.0.0 d.0.1) _ q d.2 in
+    let made : Queue = record { messages = f.0; qbytes = a.0.0; last_sender = b.0.0; last_receiver = c.0.0 } in
     let t0 = number_upto_takes w32 (2 ^ 32) wide32 max_queue_bytes bytes a.0 fits a.1 in
     let t1 = number_takes w32 (2 ^ 32) wide32 a.0.1 b.0 t0.0.rest_fits b.1 in
     let t2 = number_takes w32 (2 ^ 32) wide32 b.0.1 c.0 t1.0.rest_fits c.1 in
     let t3 = number_upto_takes w16 (2 ^ 16) wide16 max_messages c.0.1 d.0 t2.0.rest_fits d.1 in
-    let t4 = messages_take d.0.0 max_queue_bytes d.0.1 f.0 t3.0.rest_fits f.1 in
-    let nothing : f.0.1 ≡ [] = nil_from_length f.0.1 (eqb-true _ _ g.0) in
-    let e34 = Takes-then c.0.1 (small d.0.0) d.0.1 (flat_map message_field f.0.0) f.0.1 t3.0 t4.0 in
+    let t4 = all_theirs d.0.0 d.0.1 f.0 t3.0.rest_fits f.1 in
     let e12 = Takes-then a.0.1 (num b.0.0) b.0.1 (num c.0.0) c.0.1 t1.0 t2.0 in
-    let e14 = Takes-then a.0.1 (num b.0.0 ++ num c.0.0) c.0.1
-    (small d.0.0 ++ flat_map message_field f.0.0) f.0.1 e12 e34 in
-    let e04 = Takes-then bytes (num a.0.0) a.0.1
-    ((num b.0.0 ++ num c.0.0) ++ (small d.0.0 ++ flat_map message_field f.0.0)) f.0.1 t0.0 e14 in
-    let all : List ℕ = num a.0.0 ++ ((num b.0.0 ++ num c.0.0) ++ (small d.0.0 ++ flat_map message_field f.0.0)) in
-    let whole : bytes ≡ all = e04.parts ∙ ap (λ (r : List ℕ). all ++ r) nothing ∙ append-nil all in
+    let e13 = Takes-then a.0.1 (num b.0.0 ++ num c.0.0) c.0.1 (small d.0.0) d.0.1 e12 t3.0 in
+    let e03 = Takes-then bytes (num a.0.0) a.0.1 ((num b.0.0 ++ num c.0.0) ++ small d.0.0) d.0.1 t0.0 e13 in
+    let fields : bytes ≡ num a.0.0 ++ ((num b.0.0 ++ num c.0.0) ++ (small d.0.0 ++ flat_map message_field f.0)) =
+    e03.parts ∙ ap (λ (r : List ℕ). (num a.0.0 ++ ((num b.0.0 ++ num c.0.0) ++ small d.0.0)) ++ r) t4.spelled
+    ∙ simp append_assoc in
     let counted : bytes ≡ num a.0.0
-    ++ ((num b.0.0 ++ num c.0.0) ++ (small (length f.0.0) ++ flat_map message_field f.0.0)) =
-    whole ∙ ap (λ (k : ℕ). num a.0.0 ++ ((num b.0.0 ++ num c.0.0) ++ (small k ++ flat_map message_field f.0.0)))
-    (sym t4.1) in
-    subst (λ (x : Queue). IsBodyOf x (queue_code ∷ bytes)) g.1 (record {
-      limits = record { qbytes = t0.1; count = omega (arith, t4.1, t3.1); bytes = t4.2; each = t4.3 };
+    ++ ((num b.0.0 ++ num c.0.0) ++ (small (length f.0) ++ flat_map message_field f.0)) =
+    fields ∙ ap (λ (k : ℕ). num a.0.0 ++ ((num b.0.0 ++ num c.0.0) ++ (small k ++ flat_map message_field f.0)))
+    (sym t4.count) in
+    subst (λ (x : Queue). IsBodyOf x (queue_code ∷ bytes)) (some_is made q f.2) (record {
+      limits = record { qbytes = t0.1; count = omega (arith, t4.count, t3.1); bytes = t4.within; each = t4.each };
       sender = t1.1;
       receiver = t2.1;
       spelled = ap (λ (r : List ℕ). queue_code ∷ r) counted;
@@ -92,10 +64,6 @@ fields_again q bytes is =
     let limits = is.limits in
     let qbytes = limits.qbytes in
     let count = limits.count in
-    let rest : messages_at (length q.messages) max_queue_bytes (flat_map message_field q.messages)
-    ≡ Some (q.messages, []) =
-    ap (messages_at (length q.messages) max_queue_bytes) (sym (append-nil (flat_map message_field q.messages)))
-    ∙ messages_again q.messages max_queue_bytes [] limits.each limits.bytes in
     ap fields_at (fields ∙ ap (λ (r : List ℕ). num q.qbytes ++ r) regrouped) ∙ rw (
       number_upto_again w32 (2 ^ 32) wide32 max_queue_bytes q.qbytes
           (num q.last_sender ++
@@ -107,7 +75,7 @@ fields_again q bytes is =
           (small (length q.messages) ++ flat_map message_field q.messages) is.receiver,
       number_upto_again w16 (2 ^ 16) wide16 max_messages (length q.messages) (flat_map message_field q.messages)
           (omega arith) count,
-      rest,
+      messages_again q.messages limits.each limits.bytes,
     ) refl
 
 -- bytes that are read as a queue are its spelling
@@ -138,17 +106,6 @@ one_queue bytes p q is is' = some_is p q (sym (queue_again p bytes is) ∙ queue
 
 -- ---- the numbers, and then the messages, as the code reads them
 
-queue_made : (qbytes sender receiver : ℕ) (read : Option (List Message × List ℕ))
-    → (read >>= λ messages. cond (eqb (length messages.1) 0)
-    (Some (record { messages = messages.0; qbytes = qbytes; last_sender = sender; last_receiver = receiver })) None)
-    ≡ queue_with qbytes sender receiver (all_messages read)
-queue_made qbytes sender receiver None = refl
-queue_made qbytes sender receiver (Some x) =
-    elim (eqb (length x.1) 0) as
-    (λ b. cond b
-    (Some (record { messages = x.0; qbytes = qbytes; last_sender = sender; last_receiver = receiver })) None
-    ≡ queue_with qbytes sender receiver (cond b (Some x.0) None)) [ true ↦ refl | false ↦ refl ]
-
 -- numbers that were all read are the queue's, whose messages are read next
 pub fields_read : (bytes : List ℕ) (a b c d : ℕ × List ℕ) → number_upto w32 max_queue_bytes bytes ≡ Some a
     → number_at w32 a.1 ≡ Some b → number_at w32 b.1 ≡ Some c → number_upto w16 max_messages c.1 ≡ Some d
@@ -156,14 +113,13 @@ pub fields_read : (bytes : List ℕ) (a b c d : ℕ × List ℕ) → number_upto
 unfolding fields_at
 fields_read bytes a b c d qbytes sender receiver count =
     record {
-      is_read = rw (qbytes, sender, receiver, count)
-          (queue_made a.0 b.0 c.0 (messages_at d.0 max_queue_bytes d.1));
+      is_read = rw (qbytes, sender, receiver, count) refl;
     }
 
 -- bytes whose numbers and whose messages were all read are a queue's body
 pub is_body : (qbytes sender receiver count : ℕ) (messages : List Message) (section bytes : List ℕ) → IsBytes bytes
     → HasFields qbytes sender receiver count section (queue_at bytes)
-    → all_messages (messages_at count max_queue_bytes section) ≡ Some messages
+    → all_messages_at count section ≡ Some messages
     → IsBodyOf (record { messages = messages; qbytes = qbytes; last_sender = sender; last_receiver = receiver }) bytes
 is_body qbytes sender receiver count messages section bytes fits fields all =
     queue_takes bytes _ fits (fields.is_read ∙ ap (queue_with qbytes sender receiver) all)
@@ -171,25 +127,25 @@ is_body qbytes sender receiver count messages section bytes fits fields all =
 -- bytes whose messages can't all be read, or that have more behind them, are no queue's body
 pub is_no_body : (qbytes sender receiver count : ℕ) (section bytes : List ℕ)
     → HasFields qbytes sender receiver count section (queue_at bytes)
-    → all_messages (messages_at count max_queue_bytes section) ≡ None → (q : Queue) → IsBodyOf q bytes → ⊥
+    → all_messages_at count section ≡ None → (q : Queue) → IsBodyOf q bytes → ⊥
 is_no_body qbytes sender receiver count section bytes fields none =
     no_queue bytes (fields.is_read ∙ ap (queue_with qbytes sender receiver) none)
 
 tells : (qbytes sender receiver count : ℕ) (section bytes : List ℕ) (all : Option (List Message)) → IsBytes bytes
     → HasFields qbytes sender receiver count section (queue_at bytes)
-    → all_messages (messages_at count max_queue_bytes section) ≡ all → TellsPacked bytes (is_some all)
+    → all_messages_at count section ≡ all → TellsPacked (λ q. IsBodyOf q bytes) (is_some all)
 tells qbytes sender receiver count section bytes None fits fields is =
     is_no_body qbytes sender receiver count section bytes fields is
 tells qbytes sender receiver count section bytes (Some messages) fits fields is =
     record {
-      queue = record { messages = messages; qbytes = qbytes; last_sender = sender; last_receiver = receiver };
+      value = record { messages = messages; qbytes = qbytes; last_sender = sender; last_receiver = receiver };
       is_body = is_body qbytes sender receiver count messages section bytes fits fields is;
     }
 
 -- whether the bytes behind the numbers are messages tells whether the whole is a queue's body
 pub tells_packed : (qbytes sender receiver count : ℕ) (section bytes : List ℕ) (told : Bool) → IsBytes bytes
     → HasFields qbytes sender receiver count section (queue_at bytes)
-    → told ≡ is_some (all_messages (messages_at count max_queue_bytes section)) → TellsPacked bytes told
+    → told ≡ is_some (all_messages_at count section) → TellsPacked (λ q. IsBodyOf q bytes) told
 tells_packed qbytes sender receiver count section bytes told fits fields is =
-    subst (TellsPacked bytes) (sym is) (tells qbytes sender receiver count section bytes
-    (all_messages (messages_at count max_queue_bytes section)) fits fields refl)
+    subst (TellsPacked (λ q. IsBodyOf q bytes)) (sym is) (tells qbytes sender receiver count section bytes
+    (all_messages_at count section) fits fields refl)

@@ -3,13 +3,13 @@ use Rattle.std.proofs.Common.{◌≡◌, ℕ, ◌-◌, ◌+◌, ◌*◌, ◌≤�
 use Rattle.std.specs.List.{AllByRecursion}
 use Rattle.std.specs.Int.{w32, to_be_bytes, cast_unsigned}
 use Rattle.std.proofs.lemmas.List.{take_at, drop_at, map-append, length-append}
-use Rattle.kernel_model.specs.Queue.{Message, max_text}
+use Rattle.kernel_model.specs.Queue.{Message}
 use Rattle.body_fields.proofs.Fields.{IsBytes}
+use Rattle.body_fields.proofs.Many.{begins, goes_on, with_front}
 use Rattle.sysv_msg.specs.Body.{message_field}
 use Rattle.sysv_msg.specs.Heads.{Head, IsWithin, text_in, message_in, messages_in}
 use Rattle.sysv_msg.specs.Reading.{message_at, messages_at}
 use Rattle.sysv_msg.proofs.Heads.{all_joined}
-use Rattle.sysv_msg.proofs.Loop.{HasRead, begins, has_read_more}
 use Rattle.sysv_msg.proofs.Messages.{message_takes}
 
 -- the heads show in the bytes the messages that were read up to here, and the others are still to be read
@@ -19,13 +19,14 @@ pub record HasCopied (total : Option (List Message × List ℕ)) (left : ℕ) (b
   pub parts : bytes ≡ before ++ rest
   pub fits : IsBytes rest
   pub within : AllByRecursion (IsWithin bytes) heads
-  pub read : HasRead total left rest (messages_in bytes heads)
+  pub read : with_front (messages_in bytes heads) (messages_at left rest) ≡ total
 
 -- before the first message nothing is noted, and the whole section is to be copied
 pub begins_copying : (count : ℕ) (bytes : List ℕ) → IsBytes bytes
-    → HasCopied (messages_at count (count * max_text) bytes) (count - 0) bytes bytes []
+    → HasCopied (messages_at count bytes) (count - 0) bytes bytes []
+unfolding messages_at
 begins_copying count bytes fits =
-    record { before = []; parts = refl; fits = fits; within = tt; read = begins count bytes }
+    record { before = []; parts = refl; fits = fits; within = tt; read = begins message_at count bytes }
 
 text_there : (front text after bytes : List ℕ) (h : Head) → bytes ≡ front ++ (text ++ after)
     → h.value.start ≡ length front
@@ -43,10 +44,10 @@ record LiesThere (bytes rest after : List ℕ) (m : Message) : Type 0 where
   lengths : length front + length m.text + length after ≡ length bytes
   fits : IsBytes after
 
-lies_there : (before rest after bytes : List ℕ) (room : ℕ) (m : Message) → bytes ≡ before ++ rest → IsBytes rest
-    → message_at room rest ≡ Some (m, after) → LiesThere bytes rest after m
-lies_there before rest after bytes room m is fits read =
-    let takes = (message_takes room rest (m, after) fits read).0 in
+lies_there : (before rest after bytes : List ℕ) (m : Message) → bytes ≡ before ++ rest → IsBytes rest
+    → message_at rest ≡ Some (m, after) → LiesThere bytes rest after m
+lies_there before rest after bytes m is fits read =
+    let takes = (message_takes rest (m, after) fits read).0 in
     let class : List ℕ = to_be_bytes w32 (cast_unsigned w32 m.class) in
     let len : List ℕ = to_be_bytes w32 (length m.text) in
     let whole : bytes ≡ before ++ (message_field m ++ after) = is ∙ ap (λ (r : List ℕ). before ++ r) takes.parts in
@@ -65,21 +66,21 @@ lies_there before rest after bytes room m is fits read =
 
 -- a text that was read lies within the bytes that were copied
 pub text_lies_within : (total : Option (List Message × List ℕ)) (left : ℕ) (bytes rest after : List ℕ)
-    (heads : List Head) (m : Message) → message_at max_text rest ≡ Some (m, after)
+    (heads : List Head) (m : Message) → message_at rest ≡ Some (m, after)
     → HasCopied total left bytes rest heads → length after + length m.text ≤ length bytes
 text_lies_within total left bytes rest after heads m read copied =
-    let there = lies_there copied.before rest after bytes max_text m copied.parts copied.fits read in
+    let there = lies_there copied.before rest after bytes m copied.parts copied.fits read in
     let sum = there.lengths in
     omega (arith, sum)
 
 -- one more message
 pub copied_more : (total : Option (List Message × List ℕ)) (count i : ℕ) (bytes rest after : List ℕ)
-    (heads : List Head) (m : Message) (h : Head) → i < count → message_at max_text rest ≡ Some (m, after)
-    → length m.text ≤ max_text
+    (heads : List Head) (m : Message) (h : Head) → i < count → message_at rest ≡ Some (m, after)
     → h.class ≡ m.class → h.value.start ≡ length bytes - length after - length m.text → h.value.len ≡ length m.text
     → HasCopied total (count - i) bytes rest heads → HasCopied total (count - (i + 1)) bytes after (heads ++ h ∷ [])
-copied_more total count i bytes rest after heads m h lt read short class start len copied =
-    let there = lies_there copied.before rest after bytes max_text m copied.parts copied.fits read in
+unfolding messages_at
+copied_more total count i bytes rest after heads m h lt read class start len copied =
+    let there = lies_there copied.before rest after bytes m copied.parts copied.fits read in
     let sum = there.lengths in
     let begin : h.value.start ≡ length there.front = omega (arith, sum, start) in
     let text : text_in bytes h.value ≡ m.text =
@@ -92,5 +93,5 @@ copied_more total count i bytes rest after heads m h lt read short class start l
       fits = there.fits;
       within = all_joined (IsWithin bytes) heads (h ∷ []) copied.within (omega (arith, sum, begin, len), tt);
       read = rw shown
-          (has_read_more count i rest (messages_in bytes heads) m after total lt read short copied.read);
+          (goes_on message_at (messages_in bytes heads) count i rest m after total lt read copied.read);
     }

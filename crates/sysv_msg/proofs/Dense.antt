@@ -6,13 +6,15 @@ use Rattle.std.specs.Int.{w32, to_be_bytes, cast_unsigned}
 use Rattle.std.proofs.lemmas.List.{drop_at, append-nil, length-append}
 use Rattle.std.proofs.lemmas.List.Concat.{flat_map-append, flat_map-cons}
 use Rattle.std.proofs.lemmas.List.Sums.{sum_by-cons}
-use Rattle.kernel_model.specs.Queue.{Message, bytes_of, max_queue_bytes}
+use Rattle.kernel_model.specs.Queue.{Message, bytes_of}
 use Rattle.sysv_msg.specs.Body.{message_field}
 use Rattle.sysv_msg.specs.Dense.{IsDense}
 use Rattle.sysv_msg.specs.Heads.{Head, IsWithin, message_in, messages_in, nodes_in}
-use Rattle.sysv_msg.specs.Reading.{messages_at}
+use Rattle.sysv_msg.specs.Measured.{FitsQueue}
+use Rattle.sysv_msg.specs.Reading.{all_messages_at, messages_at}
+use Rattle.body_fields.specs.Fields.{whole}
 use Rattle.body_fields.proofs.Fields.{IsBytes}
-use Rattle.sysv_msg.proofs.Messages.{messages_take}
+use Rattle.sysv_msg.proofs.Messages.{all_there, messages_take}
 use Rattle.sysv_msg.specs.Linked.{messages_of}
 use Rattle.sysv_msg.proofs.Slots.{messages_there, without_first}
 use Rattle.sysv_msg.proofs.Heads.{messages_stay, within_more, message_added, within_added}
@@ -106,17 +108,10 @@ dense_removed is true slot texts heads tells dense =
 
 -- ---- all messages
 
--- where nothing is behind the messages that were read, their fields are all of the bytes
-pub dense_read : (count : ℕ) (bytes rest : List ℕ) (heads : List Head) → IsBytes bytes
-    → messages_at count max_queue_bytes bytes ≡ Some (messages_in bytes heads, rest) → rest ≡ []
+-- where the bytes are the fields of all messages, no hole lies among them
+pub dense_read : (bytes : List ℕ) (heads : List Head) → bytes ≡ flat_map message_field (messages_in bytes heads)
     → IsDense true bytes heads
-dense_read count bytes rest heads fits read nothing =
-    let taken = (messages_take count max_queue_bytes bytes (messages_in bytes heads, rest) fits read).0 in
-    let fields : List ℕ = flat_map message_field (messages_in bytes heads) in
-    record {
-      front = [];
-      parts = taken.parts ∙ ap (λ (r : List ℕ). fields ++ r) nothing ∙ append-nil fields;
-    }
+dense_read bytes heads parts = record { front = []; parts = parts }
 
 -- no bytes are those of no messages
 pub dense_none : IsDense true [] []
@@ -136,14 +131,19 @@ fields_size (m ∷ ms) =
     )
 
 -- messages that were read, with nothing behind them, are so many bytes
-pub read_size : (count room : ℕ) (bytes : List ℕ) (ms : List Message) (rest : List ℕ) → IsBytes bytes
-    → messages_at count room bytes ≡ Some (ms, rest) → rest ≡ [] → length bytes ≡ 8 * count + bytes_of ms
-read_size count room bytes ms rest fits read nothing =
-    let taken = messages_take count room bytes (ms, rest) fits read in
-    let whole : bytes ≡ flat_map message_field ms =
-    taken.0.parts ∙ ap (λ (r : List ℕ). flat_map message_field ms ++ r) nothing
-    ∙ append-nil (flat_map message_field ms) in
-    omega (arith, fields_size ms, taken.1, ap length whole)
+pub read_size : (count : ℕ) (bytes : List ℕ) (ms : List Message) → IsBytes bytes
+    → messages_at count bytes ≡ Some (ms, []) → length bytes ≡ 8 * count + bytes_of ms
+read_size count bytes ms fits read =
+    let taken = messages_take count bytes ms fits (ap whole read) in
+    omega (arith, fields_size ms, taken.1, ap length taken.0)
+
+-- messages that were read are a queue's where they are so many bytes
+pub fit_there : (count : ℕ) (bytes rest : List ℕ) (ms : List Message) (size : ℕ) → IsBytes bytes
+    → messages_at count bytes ≡ Some (ms, []) → FitsQueue count bytes rest size → all_messages_at count bytes ≡ Some ms
+fit_there count bytes rest ms size fits read fit =
+    let sum = fit.sum in
+    let within = fit.within in
+    all_there count bytes ms read (omega (arith, sum, within, read_size count bytes ms fits read))
 
 -- the fields are as many of the last bytes as they have together
 pub record LiesLast (size : ℕ) (texts fields : List ℕ) : Type 0 where

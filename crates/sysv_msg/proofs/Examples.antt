@@ -1,11 +1,11 @@
 -- Bodies, messages whose texts lie in one buffer, and which slot a receive asks for, that the checker computes.
-use Rattle.std.proofs.Common.{◌≡◌, List, [], ◌∷◌, pos, negsuc, Some, None, refl}
+use Rattle.std.proofs.Common.{◌≡◌, List, [], ◌∷◌, ◌++◌, pos, negsuc, Some, None, refl, arith}
 use Rattle.kernel_model.specs.Queue.{empty_queue}
 use Rattle.sysv_msg.specs.Body.{body, message_field}
 use Rattle.sysv_msg.specs.Heads.{Head, messages_in}
 use Rattle.sysv_msg.specs.Linked.{slot_for}
-use Rattle.sysv_msg.specs.Measured.{FitsQueue, all_messages, queue_with}
-use Rattle.sysv_msg.specs.Reading.{text_at, class_at, message_at, messages_at}
+use Rattle.sysv_msg.specs.Measured.{FitsQueue, queue_with}
+use Rattle.sysv_msg.specs.Reading.{text_at, class_at, message_at, messages_at, all_messages_at}
 use Rattle.body_fields.specs.Fields.{number_upto}
 
 -- in the buffer "hi.yo" the text "hi" is of a message of type 3, and "yo" of one of type 258
@@ -30,18 +30,19 @@ a_message : message_field (record { class = pos 258; text = 104 ∷ 105 ∷ [] }
     ∷ 105 ∷ []
 a_message = refl
 
--- one message was read and nothing is behind it, or a byte is
-all_there : all_messages (Some (record { class = pos 3; text = [] } ∷ [], []))
-    ≡ Some (record { class = pos 3; text = [] } ∷ [])
+-- a message with the text "hi" is all of its bytes, and with a byte behind it it isn't
+all_there : all_messages_at 1 (message_field (record { class = pos 258; text = 104 ∷ 105 ∷ [] }))
+    ≡ Some (record { class = pos 258; text = 104 ∷ 105 ∷ [] } ∷ [])
+unfolding all_messages_at messages_at message_at class_at text_at number_upto
 all_there = refl
 
-more_behind : all_messages (Some (record { class = pos 3; text = [] } ∷ [], 0 ∷ [])) ≡ None
+more_behind : all_messages_at 1 (message_field (record { class = pos 258; text = 104 ∷ 105 ∷ [] }) ++ 0 ∷ []) ≡ None
+unfolding all_messages_at messages_at message_at class_at text_at number_upto
 more_behind = refl
 
--- a message with the text "hi" is read so with the limit on the sum and without it, and its text has 2 bytes
+-- its text has 2 bytes
 one_fits : FitsQueue 1 (message_field (record { class = pos 258; text = 104 ∷ 105 ∷ [] })) [] 2
-unfolding messages_at message_at class_at text_at number_upto
-one_fits = record { same = refl; nothing = refl; sum = refl }
+one_fits = record { nothing = refl; sum = refl; within = omega arith }
 
 -- numbers and messages make a queue, and numbers alone none
 a_queue_with : queue_with 16384 0 0 (Some []) ≡ Some empty_queue

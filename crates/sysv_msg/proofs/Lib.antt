@@ -6,8 +6,6 @@ pub mod Messages
 pub mod Again
 pub mod Receiving
 pub mod Selected
-pub mod Loop
 pub mod Copied
-pub mod Tested
 pub mod Bodies
 mod Examples

@@ -1,20 +1,19 @@
 -- Messages that are read are those that were written, and what was written is read again.
-use Rattle.std.proofs.Common.{◌≡◌, ℕ, zero, suc, ◌-◌, ◌^◌, ◌<◌, ◌≤◌, false, cond, ltb, ℤ, pos, ◌≤ℤ◌, SFits, List, [], ◌∷◌, ◌++◌, length, take, drop, min, Some, None, refl, sym, ap, subst, ◌∙◌, append_assoc, arith}
+use Rattle.std.proofs.Common.{◌≡◌, ℕ, ◌^◌, ◌<◌, ◌≤◌, false, cond, eqb, ltb, ℤ, pos, ◌≤ℤ◌, SFits, List, [], ◌++◌, length, take, drop, Some, None, refl, sym, ap, subst, ◌∙◌, append_assoc, arith}
 use Rattle.std.specs.Prelude.{int_lt}
 use Rattle.std.specs.List.{flat_map, AllByRecursion}
 use Rattle.std.specs.Int.{w32, to_be_bytes, cast_signed, cast_unsigned}
 use Rattle.std.proofs.Math.Facts.{sfits_to_z, Fits-of_z}
-use Rattle.std.proofs.lemmas.Bool.{ltb-false, le-ltb}
+use Rattle.std.proofs.lemmas.Bool.{ltb-false, le-ltb, lt-ltb}
 use Rattle.std.proofs.lemmas.Int.{ints, to_z-of_z, of_z-to_z}
 use Rattle.std.proofs.lemmas.List.{take_at, drop_at, take-append-drop, length-append, length-take}
-use Rattle.std.proofs.lemmas.List.Concat.{flat_map-cons}
-use Rattle.std.proofs.lemmas.List.Sums.{sum_by-cons}
 use Rattle.pico_base.specs.Options.{◌>>=◌}
-use Rattle.kernel_model.specs.Queue.{Message, max_text, bytes_of}
+use Rattle.kernel_model.specs.Queue.{Message, max_queue_bytes, max_text, bytes_of}
 use Rattle.sysv_msg.specs.Limits.{IsSendable}
 use Rattle.sysv_msg.specs.Body.{text_field, message_field}
-use Rattle.body_fields.specs.Fields.{number_at, number_upto}
-use Rattle.sysv_msg.specs.Reading.{text_at, class_at, message_at, messages_at}
+use Rattle.body_fields.specs.Fields.{number_at, number_upto, whole}
+use Rattle.sysv_msg.specs.Reading.{text_at, class_at, message_at, messages_at, all_messages_at}
+use Rattle.body_fields.proofs.Many.{all_again, all_taken}
 use Rattle.body_fields.proofs.Fields.{IsBytes, IsBytes-drop, bind_some, guard_some, some_is, Takes, Takes-then, wide32, number_takes, number_again, number_upto_takes, number_upto_again}
 
 text_takes : (limit : ℕ) (bytes : List ℕ) (x : List ℕ × List ℕ) → IsBytes bytes → text_at limit bytes ≡ Some x
@@ -81,80 +80,85 @@ class_again class rest low fits =
       at_least class low,
     ) refl
 
--- a message that is read is spelled so, may be sent, and its text fits the room
-pub message_takes : (room : ℕ) (bytes : List ℕ) (x : Message × List ℕ) → IsBytes bytes → message_at room bytes ≡ Some x
-    → Takes bytes (message_field x.0) x.1 × IsSendable x.0 × (length x.0.text ≤ room)
+-- a message that is read is spelled so, and may be sent
+pub message_takes : (bytes : List ℕ) (x : Message × List ℕ) → IsBytes bytes → message_at bytes ≡ Some x
+    → Takes bytes (message_field x.0) x.1 × IsSendable x.0
 unfolding message_at
-message_takes room bytes x fits e =
-    let a = bind_some (class_at bytes)
-    (λ class. text_at (min max_text room) class.1 >>= λ text.
-    Some (record { class = class.0; text = text.0 }, text.1)) x e in
-    let b = bind_some (text_at (min max_text room) a.0.1)
-    (λ text. Some (record { class = a.0.0; text = text.0 }, text.1)) x a.2 in
+message_takes bytes x fits e =
+    let a = bind_some (class_at bytes) _ x e in
+    let b = bind_some (text_at max_text a.0.1) _ x a.2 in
     let t0 = class_takes bytes a.0 fits a.1 in
-    let t1 = text_takes (min max_text room) a.0.1 b.0 t0.0.rest_fits b.1 in
+    let t1 = text_takes max_text a.0.1 b.0 t0.0.rest_fits b.1 in
     let both = Takes-then bytes (to_be_bytes w32 (cast_unsigned w32 a.0.0)) a.0.1 (text_field b.0.0) b.0.1 t0.0 t1.0 in
     let made : Message × List ℕ = (record { class = a.0.0; text = b.0.0 }, b.0.1) in
-    let short : length b.0.0 ≤ max_text = omega (arith, t1.1) in
-    let within : length b.0.0 ≤ room = omega (arith, t1.1) in
-    subst (λ (y : Message × List ℕ). Takes bytes (message_field y.0) y.1 × IsSendable y.0 × (length y.0.text ≤ room))
-    (some_is made x b.2) (both, record { class = t0.1; fits = t0.2; text = short }, within)
+    subst (λ (y : Message × List ℕ). Takes bytes (message_field y.0) y.1 × IsSendable y.0)
+    (some_is made x b.2) (both, record { class = t0.1; fits = t0.2; text = t1.1 })
 
-message_again : (room : ℕ) (m : Message) (rest : List ℕ) → IsSendable m → length m.text ≤ room
-    → message_at room (message_field m ++ rest) ≡ Some (m, rest)
+message_again : (m : Message) (rest : List ℕ) → IsSendable m → message_at (message_field m ++ rest) ≡ Some (m, rest)
 unfolding message_at
-message_again room m rest sendable within =
+message_again m rest sendable =
     let regrouped : message_field m ++ rest ≡ to_be_bytes w32 (cast_unsigned w32 m.class)
     ++ (text_field m.text ++ rest) =
     append_assoc (to_be_bytes w32 (cast_unsigned w32 m.class)) (text_field m.text) rest in
     let short = sendable.text in
-    let le : length m.text ≤ min max_text room = omega arith in
-    ap (message_at room) regrouped
+    ap message_at regrouped
     ∙ rw (
       class_again m.class (text_field m.text ++ rest) sendable.class sendable.fits,
-      text_again (min max_text room) m.text rest le (omega arith),
+      text_again max_text m.text rest short (omega arith),
     ) refl
 
--- messages that were read are what their bytes spell, as many as were asked for, and within the room
-pub messages_take : (n room : ℕ) (bytes : List ℕ) (x : List Message × List ℕ) → IsBytes bytes
-    → messages_at n room bytes ≡ Some x
-    → Takes bytes (flat_map message_field x.0) x.1 × (length x.0 ≡ n) × (bytes_of x.0 ≤ room)
-    × AllByRecursion IsSendable x.0
+-- messages with nothing behind them are what their bytes spell, and as many as were asked for
+pub messages_take : (n : ℕ) (bytes : List ℕ) (ms : List Message) → IsBytes bytes
+    → whole (messages_at n bytes) ≡ Some ms
+    → (bytes ≡ flat_map message_field ms) × (length ms ≡ n) × AllByRecursion IsSendable ms
 unfolding messages_at
-messages_take zero room bytes x fits e =
-    subst (λ (y : List Message × List ℕ). Takes bytes (flat_map message_field y.0) y.1 × (length y.0 ≡ 0)
-    × (bytes_of y.0 ≤ room) × AllByRecursion IsSendable y.0) (some_is ([], bytes) x e)
-    (record { parts = refl; rest_fits = fits }, refl, omega arith, tt)
-messages_take (suc n) room bytes x fits e =
-    let a = bind_some (message_at room bytes)
-    (λ first. messages_at n (room - length first.0.text) first.1 >>= λ others. Some (first.0 ∷ others.0, others.1))
-    x e in
-    let b = bind_some (messages_at n (room - length a.0.0.text) a.0.1)
-    (λ others. Some (a.0.0 ∷ others.0, others.1)) x a.2 in
-    let first = message_takes room bytes a.0 fits a.1 in
-    let second = messages_take n (room - length a.0.0.text) a.0.1 b.0 first.0.rest_fits b.1 in
-    let both = Takes-then bytes (message_field a.0.0) a.0.1 (flat_map message_field b.0.0) b.0.1 first.0 second.0 in
-    let made : List Message × List ℕ = (a.0.0 ∷ b.0.0, b.0.1) in
-    let sum : bytes_of (a.0.0 ∷ b.0.0) ≤ room =
-    omega (arith, sum_by-cons (λ (m : Message). length m.text) a.0.0 b.0.0, first.2, second.2) in
-    subst (λ (y : List Message × List ℕ). Takes bytes (flat_map message_field y.0) y.1 × (length y.0 ≡ suc n)
-    × (bytes_of y.0 ≤ room) × AllByRecursion IsSendable y.0) (some_is made x b.2)
-    (rw flat_map-cons both, ap suc second.1, sum, (first.1, second.3))
+messages_take n bytes ms fits e = all_taken message_at message_field IsSendable message_takes n bytes ms fits e
 
--- messages within the room are read back
-pub messages_again : (ms : List Message) (room : ℕ) (rest : List ℕ) → AllByRecursion IsSendable ms → bytes_of ms ≤ room
-    → messages_at (length ms) room (flat_map message_field ms ++ rest) ≡ Some (ms, rest)
-unfolding messages_at
-messages_again [] room rest fits sum = refl
-messages_again (m ∷ ms) room rest fits sum =
-    let regrouped : flat_map message_field (m ∷ ms) ++ rest ≡ message_field m ++ (flat_map message_field ms ++ rest) =
-    ap (λ (x : List ℕ). x ++ rest) (flat_map-cons message_field m ms)
-    ∙ append_assoc (message_field m) (flat_map message_field ms) rest in
-    let parts = sum_by-cons (λ (m : Message). length m.text) m ms in
-    let first : length m.text ≤ room = omega arith in
-    let others : bytes_of ms ≤ room - length m.text = omega arith in
-    ap (messages_at (suc (length ms)) room) regrouped
-    ∙ rw (
-      message_again room m (flat_map message_field ms ++ rest) fits.0 first,
-      messages_again ms (room - length m.text) rest fits.1 others,
-    ) refl
+-- a queue's messages are read back
+pub messages_again : (ms : List Message) → AllByRecursion IsSendable ms → bytes_of ms ≤ max_queue_bytes
+    → all_messages_at (length ms) (flat_map message_field ms) ≡ Some ms
+unfolding all_messages_at messages_at
+messages_again ms each within =
+    let read = all_again message_at message_field IsSendable message_again ms each in
+    rw (read, le-ltb _ _ within) refl
+
+-- messages that were read are a queue's where nothing is behind them and their texts aren't too long together
+pub all_there : (n : ℕ) (bytes : List ℕ) (ms : List Message) → messages_at n bytes ≡ Some (ms, [])
+    → bytes_of ms ≤ max_queue_bytes → all_messages_at n bytes ≡ Some ms
+unfolding all_messages_at
+all_there n bytes ms read within = rw (read, le-ltb _ _ within) refl
+
+-- what can't be read is no queue's
+pub none_there : (n : ℕ) (bytes : List ℕ) → messages_at n bytes ≡ None → all_messages_at n bytes ≡ None
+unfolding all_messages_at
+none_there n bytes none = rw none refl
+
+-- nor are messages with bytes behind them
+pub none_left : (n : ℕ) (bytes : List ℕ) (ms : List Message) (rest : List ℕ)
+    → messages_at n bytes ≡ Some (ms, rest) → eqb (length rest) 0 ≡ false → all_messages_at n bytes ≡ None
+unfolding all_messages_at
+none_left n bytes ms rest read more = rw (read, more) refl
+
+-- nor those whose texts are too long together
+pub none_beyond : (n : ℕ) (bytes : List ℕ) (ms : List Message) → messages_at n bytes ≡ Some (ms, [])
+    → max_queue_bytes < bytes_of ms → all_messages_at n bytes ≡ None
+unfolding all_messages_at
+none_beyond n bytes ms read beyond = rw (read, lt-ltb _ _ beyond) refl
+
+-- what is known of a queue's messages that were read
+pub record AreTheirs (n : ℕ) (bytes : List ℕ) (ms : List Message) : Type 0 where
+  pub spelled : bytes ≡ flat_map message_field ms
+  pub count : length ms ≡ n
+  pub within : bytes_of ms ≤ max_queue_bytes
+  pub each : AllByRecursion IsSendable ms
+
+-- messages that were read, all of them and within a queue's room, are a queue's
+pub all_theirs : (n : ℕ) (bytes : List ℕ) (ms : List Message) → IsBytes bytes → all_messages_at n bytes ≡ Some ms
+    → AreTheirs n bytes ms
+unfolding all_messages_at
+all_theirs n bytes ms fits e =
+    let read = bind_some (whole (messages_at n bytes)) _ ms e in
+    let g = guard_some (ltb max_queue_bytes (bytes_of read.0)) read.0 ms read.2 in
+    let t = messages_take n bytes read.0 fits read.1 in
+    subst (λ (ms : List Message). AreTheirs n bytes ms) g.1
+    (record { spelled = t.0; count = t.1; within = ltb-false _ _ g.0; each = t.2 })

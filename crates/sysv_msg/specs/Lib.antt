@@ -4,6 +4,5 @@ pub mod Heads
 pub mod Limits
 pub mod Linked
 pub mod Measured
-pub mod Packed
 pub mod Reading
 pub mod Refusals

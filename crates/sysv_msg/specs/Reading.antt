@@ -1,9 +1,9 @@
 -- Reading a body from left to right: a field is its value and the bytes after it, or there is none.
-use Rattle.std.specs.Prelude.{ℕ, ℤ, zero, suc, ◌-◌, pos, List, [], ◌∷◌, length, take, drop, Option, Some, None, nat_lt, int_lt, min, ◌==◌, if◌then◌else◌}
+use Rattle.std.specs.Prelude.{ℕ, ℤ, pos, List, [], ◌∷◌, length, take, drop, Option, Some, None, nat_lt, int_lt, ◌==◌, if◌then◌else◌}
 use Rattle.std.specs.Int.{w16, w32, cast_signed}
 use Rattle.pico_base.specs.Options.{◌>>=◌}
-use Rattle.body_fields.specs.Fields.{number_at, number_upto}
-use Rattle.kernel_model.specs.Queue.{Message, Queue, max_text, max_queue_bytes, max_messages}
+use Rattle.body_fields.specs.Fields.{many_at, number_at, number_upto, whole}
+use Rattle.kernel_model.specs.Queue.{Message, Queue, bytes_of, max_text, max_queue_bytes, max_messages}
 use Rattle.sysv_msg.specs.Body.{queue_code}
 
 -- a text of at most so many bytes
@@ -18,19 +18,21 @@ class_at bytes = do
   n ← number_at w32 bytes
   if int_lt (cast_signed w32 n.0) (pos 1) then None else Some (cast_signed w32 n.0, n.1)
 
--- a message, where room is left for so many bytes of texts
-unfoldable pub message_at : ℕ → List ℕ → Option (Message × List ℕ)
-message_at room bytes = do
+-- a message
+unfoldable pub message_at : List ℕ → Option (Message × List ℕ)
+message_at bytes = do
   class ← class_at bytes
-  text ← text_at (min max_text room) class.1
+  text ← text_at max_text class.1
   Some (record { class = class.0; text = text.0 }, text.1)
 
-unfoldable pub messages_at : ℕ → ℕ → List ℕ → Option (List Message × List ℕ)
-messages_at zero room bytes = Some ([], bytes)
-messages_at (suc n) room bytes = do
-  first ← message_at room bytes
-  others ← messages_at n (room - length first.0.text) first.1
-  Some (first.0 ∷ others.0, others.1)
+unfoldable pub messages_at : ℕ → List ℕ → Option (List Message × List ℕ)
+messages_at count bytes = many_at message_at count bytes
+
+-- so many messages and nothing behind them, whose texts have no more bytes than a queue's may have
+unfoldable pub all_messages_at : ℕ → List ℕ → Option (List Message)
+all_messages_at count bytes = do
+  messages ← whole (messages_at count bytes)
+  if nat_lt max_queue_bytes (bytes_of messages) then None else Some messages
 
 -- the fields behind the code, and nothing behind them
 unfoldable pub fields_at : List ℕ → Option Queue
@@ -39,15 +41,8 @@ fields_at bytes = do
   sender ← number_at w32 qbytes.1
   receiver ← number_at w32 sender.1
   count ← number_upto w16 max_messages receiver.1
-  messages ← messages_at count.0 max_queue_bytes count.1
-  if length messages.1 == 0 then Some
-      (record {
-        messages = messages.0;
-        qbytes = qbytes.0;
-        last_sender = sender.0;
-        last_receiver =
-            receiver.0;
-      }) else None
+  messages ← all_messages_at count.0 count.1
+  Some (record { messages = messages; qbytes = qbytes.0; last_sender = sender.0; last_receiver = receiver.0 })
 
 unfoldable pub queue_at : List ℕ → Option Queue
 queue_at [] = None

@@ -4,10 +4,9 @@ ghost use Rattle.std.specs.Int.{w16, w32};
 ghost use Rattle.kernel_model.specs.Queue as definition;
 ghost use Rattle.kernel_model.specs.Queue.{max_text, max_queue_bytes};
 ghost use Rattle.sysv_msg.specs.Body.{IsBodyOf};
-ghost use Rattle.body_fields.specs.Fields.{Reads, Refuses, number_upto};
-ghost use Rattle.sysv_msg.specs.Reading.{text_at, class_at, message_at, messages_at, fields_at, queue_at};
-ghost use Rattle.sysv_msg.specs.Measured.{AreRead, FitsQueue, HasFields, AreAll, all_messages};
-ghost use Rattle.sysv_msg.specs.Packed.{TellsPacked};
+ghost use Rattle.body_fields.specs.Fields.{Reads, Refuses, TellsPacked, number_upto};
+ghost use Rattle.sysv_msg.specs.Reading.{text_at, class_at, message_at, messages_at, all_messages_at, fields_at, queue_at};
+ghost use Rattle.sysv_msg.specs.Measured.{AreRead, FitsQueue, HasFields, AreAll};
 ghost use Rattle.sysv_msg.specs.Linked.{messages_of};
 
 use crate::Queue;
@@ -65,7 +64,7 @@ fn class_of(bytes: &[u8]) -> Option<(i32, &[u8])>
 #[tactic(auto, unfolding(crate::specs::Reading::message_at))]
 fn message_of(bytes: &[u8]) -> Option<(i32, &[u8], &[u8])>
     ensures read { Reads (λ x. (record { class = x.0; text = x.1.now }, x.2.now)) result
-        (message_at max_text bytes.now) }
+        (message_at bytes.now) }
     ensures within { IfSome result (λ x. length x.1.now ≤ max_text) }
 {
     let (class, rest) = class_of(bytes)?;
@@ -76,8 +75,8 @@ fn message_of(bytes: &[u8]) -> Option<(i32, &[u8], &[u8])>
 /// How many bytes the texts of so many messages have, whatever their sum, that were read up to these bytes, if none
 /// are left and a queue may have so many.
 fn size_of_texts(count: u16, bytes: &[u8], rest: &[u8]) -> Option<usize>
-    requires { AreRead (messages_at count (count * max_text) bytes.now) rest.now }
-    ensures { MatchOption result (all_messages (messages_at count max_queue_bytes bytes.now) ≡ None)
+    requires { AreRead (messages_at count bytes.now) rest.now }
+    ensures { MatchOption result (all_messages_at count bytes.now ≡ None)
         (λ size. FitsQueue count bytes.now rest.now size) }
 {
     if !rest.is_empty() {
@@ -92,7 +91,7 @@ fn size_of_texts(count: u16, bytes: &[u8], rest: &[u8]) -> Option<usize>
 
 /// Whether the bytes are so many messages of a queue, and no more. It takes no memory.
 fn are_messages(count: u16, bytes: &[u8]) -> bool
-    ensures { result ≡ is_some (all_messages (messages_at count max_queue_bytes bytes.now)) }
+    ensures { result ≡ is_some (all_messages_at count bytes.now) }
 {
     let mut rest = bytes;
     for _ in 0..count {
@@ -159,8 +158,8 @@ pub(crate) fn copy_messages(
     requires nothing { fresh.nodes ≡ [] }
     requires room { count ≤ fresh.spare }
     ensures { IfOk result (λ got.
-        MatchOption got (all_messages (messages_at count max_queue_bytes bytes.now) ≡ None)
-        (λ x. AreAll (messages_at count max_queue_bytes bytes.now) (messages_of x.0) x.1)) }
+        MatchOption got (all_messages_at count bytes.now ≡ None)
+        (λ x. AreAll (all_messages_at count bytes.now) (messages_of x.0) x.1)) }
 {
     let mut links = fresh;
     let mut rest = bytes;
@@ -202,8 +201,8 @@ fn room_for(alloc: Global, count: u16) -> Result<Links<Span>, Memory>
 /// Copies the messages that the bytes are, into memory of their own.
 fn unpacked(alloc: Global, count: u16, bytes: &[u8]) -> Result<Option<(Messages, usize)>, Memory>
     ensures { IfOk result (λ got.
-        MatchOption got (all_messages (messages_at count max_queue_bytes bytes.now) ≡ None)
-        (λ x. AreAll (messages_at count max_queue_bytes bytes.now) (messages_of x.0) x.1)) }
+        MatchOption got (all_messages_at count bytes.now ≡ None)
+        (λ x. AreAll (all_messages_at count bytes.now) (messages_of x.0) x.1)) }
 {
     copy_messages(alloc, room_for(alloc, count)?, count, bytes)
 }
@@ -224,7 +223,7 @@ fn without_memory(bytes: &[u8]) -> UnpackFault
 impl Queue {
     /// Whether the bytes are the packed form of a queue. It takes no memory.
     pub fn is_packed(bytes: &[u8]) -> bool
-        ensures { TellsPacked bytes.now result }
+        ensures { TellsPacked (λ q. IsBodyOf q bytes.now) result }
     {
         match queue_fields(bytes) {
             Some(fields) => are_messages(fields.count, fields.messages),

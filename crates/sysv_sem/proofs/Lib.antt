@@ -1,6 +1,5 @@
 pub mod Carried
 mod Examples
-pub mod Loop
 pub mod Places
 pub mod Rows
 pub mod Semaphores

@@ -2,16 +2,16 @@
 use Rattle.std.proofs.Common.{◌≡◌, ℕ, zero, suc, ◌+◌, ◌*◌, ◌≤◌, ◌<◌, Bool, true, false, cond, eqb, ltb, List, [], ◌∷◌, ◌++◌, length, get_or, take, drop, Option, Some, None, refl, sym, ap, subst, ◌∙◌, add-one, arith}
 use Rattle.std.specs.Bool.{OnTrue, OnFalse}
 use Rattle.std.specs.Int.{w16, w32, from_be_bytes}
-use Rattle.std.proofs.lemmas.Bool.{ltb-false, le-ltb, lt-ltb, eqb-true}
+use Rattle.std.proofs.lemmas.Bool.{ltb-false, le-ltb, lt-ltb}
 use Rattle.std.proofs.lemmas.Bool.Decides.{nat_tests}
 use Rattle.std.proofs.lemmas.List.{drop-drop, get_or-drop, get_or-take, length-drop, nil_from_length}
 use Rattle.pico_base.specs.Options.{◌>>=◌}
 use Rattle.kernel_model.specs.SemaphoreSet.{Semaphore, SemaphoreSet, set_of, max_value, max_semaphores, is_bad_count}
-use Rattle.body_fields.specs.Fields.{number_at, number_upto}
+use Rattle.body_fields.specs.Fields.{number_at, number_upto, whole}
 use Rattle.sysv_sem.specs.Reading.{semaphore_at, semaphores_at, fields_at, counted_at}
 use Rattle.sysv_sem.specs.Places.{width, max_high, semaphore_in, semaphores_in, AreValues}
 use Rattle.sysv_sem.proofs.Semaphores.{let_through, fine_count}
-use Rattle.body_fields.proofs.Fields.{IsBytes, IsBytes-drop, bind_some, guard_some, guard_ended, some_is}
+use Rattle.body_fields.proofs.Fields.{IsBytes, IsBytes-drop, bind_some, guard_some, some_is, whole_is}
 
 -- ---- bytes behind others
 
@@ -107,13 +107,13 @@ one_is bytes x e =
 -- ---- so many semaphores
 
 -- so many times six bytes, with low first bytes, are so many semaphores
-many_at : (n : ℕ) (bytes : List ℕ) → IsBytes bytes → length bytes ≡ width * n → AreValues n bytes
+all_there : (n : ℕ) (bytes : List ℕ) → IsBytes bytes → length bytes ≡ width * n → AreValues n bytes
     → semaphores_at n bytes ≡ Some (semaphores_in n bytes, [])
 unfolding semaphores_at semaphores_in
-many_at zero bytes fits len low = ap (λ (r : List ℕ). Some ([], r)) (nil_from_length bytes (omega arith))
-many_at (suc n) bytes fits len low =
+all_there zero bytes fits len low = ap (λ (r : List ℕ). Some ([], r)) (nil_from_length bytes (omega arith))
+all_there (suc n) bytes fits len low =
     let one = one_at bytes fits (omega arith) (low 0 (omega arith)) in
-    let others = many_at n (drop width bytes) (IsBytes-drop width bytes fits) (omega (arith, length-drop width bytes))
+    let others = all_there n (drop width bytes) (IsBytes-drop width bytes fits) (omega (arith, length-drop width bytes))
     (λ place lt. subst (λ (b : ℕ). b ≤ max_high) (sym (high_behind place bytes)) (low (suc place) (omega arith))) in
     rw (one, others, first_and_others n bytes) refl
 
@@ -151,7 +151,7 @@ counted_in : (count : ℕ) (bytes : List ℕ) → IsBytes bytes → 1 ≤ count 
     → counted_at count bytes ≡ Some (set_of (semaphores_in count bytes))
 unfolding counted_at fields_at
 counted_in count bytes fits some few len low =
-    rw (fine_count count some few, many_at count bytes fits len low) refl
+    rw (fine_count count some few, all_there count bytes fits len low) refl
 
 -- nothing is a set's behind a count of 0
 pub counted_zero : (count : ℕ) (bytes : List ℕ) → count ≡ 0 → counted_at count bytes ≡ None
@@ -170,12 +170,10 @@ counted_is : (count : ℕ) (bytes : List ℕ) (set : SemaphoreSet) → counted_a
     → (length bytes ≡ width * count) × AreValues count bytes
 unfolding counted_at fields_at
 counted_is count bytes set e =
-    let g = let_through (is_bad_count count)
-    (semaphores_at count bytes >>= λ x. cond (eqb (length x.1) 0) (Some (set_of x.0)) None) set e in
-    let a = bind_some (semaphores_at count bytes) (λ x. cond (eqb (length x.1) 0) (Some (set_of x.0)) None) set g.1 in
-    let h = guard_ended (eqb (length a.0.1) 0) (set_of a.0.0) set a.2 in
-    let m = many_is count bytes a.0 a.1 in
-    (omega (arith, m.0, eqb-true _ _ h.0), m.1)
+    let g = let_through (is_bad_count count) (whole (semaphores_at count bytes) >>= λ x. Some (set_of x)) set e in
+    let a = bind_some (whole (semaphores_at count bytes)) (λ x. Some (set_of x)) set g.1 in
+    let m = many_is count bytes (a.0, []) (whole_is (semaphores_at count bytes) a.0 a.1) in
+    (omega (arith, m.0), m.1)
 
 none_from : {A : Type 0} (o : Option A) → ((x : A) → o ≡ Some x → ⊥) → o ≡ None
 none_from None none = refl

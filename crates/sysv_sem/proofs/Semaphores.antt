@@ -5,16 +5,14 @@ use Rattle.std.specs.List.{flat_map, AllByRecursion}
 use Rattle.std.specs.Int.{w16, w32, to_be_bytes}
 use Rattle.std.proofs.lemmas.Bool.Decides.{nat_tests}
 use Rattle.std.proofs.lemmas.Bool.{eqb-true, ltb-false, le-ltb, or_parts}
-use Rattle.std.proofs.lemmas.List.{append-nil, nil_from_length}
 use Rattle.pico_base.specs.Options.{◌>>=◌}
 use Rattle.kernel_model.specs.SemaphoreSet.{Semaphore, SemaphoreSet, set_of, max_value, max_semaphores, is_bad_count}
 use Rattle.sysv_sem.specs.Limits.{IsWithinLimits}
 use Rattle.sysv_sem.specs.Body.{set_code, semaphore_field, HasProcess, IsBodyOf}
-use Rattle.body_fields.specs.Fields.{Reads, number_at, number_upto}
+use Rattle.body_fields.specs.Fields.{Reads, number_at, number_upto, whole}
 use Rattle.sysv_sem.specs.Reading.{semaphore_at, semaphores_at, fields_at, counted_at, set_at}
-use Rattle.body_fields.proofs.Fields.{IsBytes, IsBytes-rest, bind_some, guard_ended, guard_then, some_is, refused, Takes, Takes-then, wide16, wide32, number_takes, number_again, number_upto_takes, number_upto_again}
-use Rattle.body_fields.proofs.Many.{many_takes, many_again}
-use Rattle.sysv_sem.proofs.Loop.{semaphores_repeat}
+use Rattle.body_fields.proofs.Fields.{IsBytes, IsBytes-rest, bind_some, guard_then, some_is, refused, Takes, Takes-then, wide16, wide32, number_takes, number_again, number_upto_takes, number_upto_again}
+use Rattle.body_fields.proofs.Many.{all_again, all_taken}
 
 abbrev IsFine : Semaphore → Type 0
 IsFine s = s.value ≤ max_value
@@ -70,19 +68,21 @@ each_field (s ∷ set) all =
     let rest = each_field set all.1 in
     ((all.0.0, rest.0), (all.0.1, rest.1))
 
-pub semaphores_take : (n : ℕ) (bytes : List ℕ) (x : List Semaphore × List ℕ) → IsBytes bytes
-    → semaphores_at n bytes ≡ Some x
-    → Takes bytes (flat_map semaphore_field x.0) x.1 × (length x.0 ≡ n) × AllByRecursion IsFine x.0
-    × AllByRecursion HasProcess x.0
-semaphores_take n bytes x fits e =
-    let t = many_takes semaphores_repeat semaphore_field IsField one_takes n bytes x fits e in
-    let all = each_field x.0 t.2 in
+semaphores_take : (n : ℕ) (bytes : List ℕ) (set : List Semaphore) → IsBytes bytes
+    → whole (semaphores_at n bytes) ≡ Some set
+    → (bytes ≡ flat_map semaphore_field set) × (length set ≡ n) × AllByRecursion IsFine set
+    × AllByRecursion HasProcess set
+unfolding semaphores_at
+semaphores_take n bytes set fits e =
+    let t = all_taken semaphore_at semaphore_field IsField one_takes n bytes set fits e in
+    let all = each_field set t.2 in
     (t.0, t.1, all.0, all.1)
 
-semaphores_again : (set : List Semaphore) (rest : List ℕ) → AllByRecursion IsFine set → AllByRecursion HasProcess set
-    → semaphores_at (length set) (flat_map semaphore_field set ++ rest) ≡ Some (set, rest)
-semaphores_again set rest fine process =
-    many_again semaphores_repeat semaphore_field IsField one_again set rest (all_fields set fine process)
+semaphores_again : (set : List Semaphore) → AllByRecursion IsFine set → AllByRecursion HasProcess set
+    → whole (semaphores_at (length set) (flat_map semaphore_field set)) ≡ Some set
+unfolding semaphores_at
+semaphores_again set fine process =
+    all_again semaphore_at semaphore_field IsField one_again set (all_fields set fine process)
 
 -- a refusing test that did not refuse
 pub let_through : {A : Type 0} (b : Bool) (o : Option A) (y : A) → cond b None o ≡ Some y → (b ≡ false) × (o ≡ Some y)
@@ -104,17 +104,11 @@ counted_takes : (count : ℕ) (bytes : List ℕ) (set : SemaphoreSet) → IsByte
     → IsBodyOf set (set_code ∷ count ∷ bytes)
 unfolding counted_at fields_at
 counted_takes count bytes set fits e =
-    let g = let_through (is_bad_count count)
-    (semaphores_at count bytes >>= λ x. cond (eqb (length x.1) 0) (Some (set_of x.0)) None) set e in
+    let g = let_through (is_bad_count count) (whole (semaphores_at count bytes) >>= λ x. Some (set_of x)) set e in
     let bad = or_parts (eqb count 0) (ltb max_semaphores count) g.0 in
-    let a = bind_some (semaphores_at count bytes) (λ x. cond (eqb (length x.1) 0) (Some (set_of x.0)) None) set g.1 in
-    let h = guard_ended (eqb (length a.0.1) 0) (set_of a.0.0) set a.2 in
+    let a = bind_some (whole (semaphores_at count bytes)) (λ x. Some (set_of x)) set g.1 in
     let t = semaphores_take count bytes a.0 fits a.1 in
-    let nothing : a.0.1 ≡ [] = nil_from_length a.0.1 (eqb-true _ _ h.0) in
-    let whole : bytes ≡ flat_map semaphore_field a.0.0 =
-    t.0.parts ∙ ap (λ (r : List ℕ). flat_map semaphore_field a.0.0 ++ r) nothing
-    ∙ append-nil (flat_map semaphore_field a.0.0) in
-    subst (λ (x : SemaphoreSet). IsBodyOf x (set_code ∷ count ∷ bytes)) h.1 (record {
+    subst (λ (x : SemaphoreSet). IsBodyOf x (set_code ∷ count ∷ bytes)) (some_is (set_of a.0) set a.2) (record {
       limits = record {
         some = omega (arith, t.1, some_count count bad.0);
         count =
@@ -122,18 +116,18 @@ counted_takes count bytes set fits e =
         each = t.2;
       };
       processes = t.3;
-      spelled = ap (λ (r : List ℕ). set_code ∷ count ∷ r) whole
-          ∙ ap (λ (n : ℕ). set_code ∷ n ∷ flat_map semaphore_field a.0.0) (sym t.1);
+      spelled = ap (λ (r : List ℕ). set_code ∷ count ∷ r) t.0
+          ∙ ap (λ (n : ℕ). set_code ∷ n ∷ flat_map semaphore_field a.0) (sym t.1);
     })
 
 counted_again : (set : List Semaphore) → IsWithinLimits (set_of set) → AllByRecursion HasProcess set
     → counted_at (length set) (flat_map semaphore_field set) ≡ Some (set_of set)
 unfolding counted_at fields_at
 counted_again set limits processes =
-    let rest : semaphores_at (length set) (flat_map semaphore_field set) ≡ Some (set, []) =
-    ap (semaphores_at (length set)) (sym (append-nil (flat_map semaphore_field set)))
-    ∙ semaphores_again set [] limits.each processes in
-    rw (fine_count (length set) limits.some limits.count, rest) refl
+    rw (
+      fine_count (length set) limits.some limits.count,
+      semaphores_again set limits.each processes,
+    ) refl
 
 -- bytes that are read as a set are its body, and a set's body is read as that set
 pub set_takes : (bytes : List ℕ) (set : SemaphoreSet) → IsBytes bytes → set_at bytes ≡ Some set → IsBodyOf set bytes

@@ -1,6 +1,5 @@
 pub mod Answers
 pub mod Body
 pub mod Limits
-pub mod Packed
 pub mod Places
 pub mod Reading

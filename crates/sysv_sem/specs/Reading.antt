@@ -1,8 +1,8 @@
 -- Reading a body from left to right: a field is its value and the bytes after it, or there is none.
-use Rattle.std.specs.Prelude.{ℕ, zero, suc, List, [], ◌∷◌, length, Option, Some, None, ◌==◌, if◌then◌else◌}
+use Rattle.std.specs.Prelude.{ℕ, List, [], ◌∷◌, Option, Some, None, ◌==◌, if◌then◌else◌}
 use Rattle.std.specs.Int.{w16, w32}
 use Rattle.pico_base.specs.Options.{◌>>=◌}
-use Rattle.body_fields.specs.Fields.{number_at, number_upto}
+use Rattle.body_fields.specs.Fields.{many_at, number_at, number_upto, whole}
 use Rattle.kernel_model.specs.SemaphoreSet.{Semaphore, SemaphoreSet, set_of, max_value, is_bad_count}
 use Rattle.sysv_sem.specs.Body.{set_code}
 
@@ -13,17 +13,13 @@ semaphore_at bytes = do
   Some (record { value = value.0; last = last.0 }, last.1)
 
 unfoldable pub semaphores_at : ℕ → List ℕ → Option (List Semaphore × List ℕ)
-semaphores_at zero bytes = Some ([], bytes)
-semaphores_at (suc n) bytes = do
-  first ← semaphore_at bytes
-  others ← semaphores_at n first.1
-  Some (first.0 ∷ others.0, others.1)
+semaphores_at count bytes = many_at semaphore_at count bytes
 
 -- the semaphores behind the count, and nothing behind them
 unfoldable pub fields_at : ℕ → List ℕ → Option SemaphoreSet
 fields_at count bytes = do
-  set ← semaphores_at count bytes
-  if length set.1 == 0 then Some (set_of set.0) else None
+  semaphores ← whole (semaphores_at count bytes)
+  Some (set_of semaphores)
 
 -- with a count that a set may have
 unfoldable pub counted_at : ℕ → List ℕ → Option SemaphoreSet

@@ -3,9 +3,8 @@ ghost use Rattle.std.specs.Prelude.{◌≡◌, ◌+◌, ◌*◌, ◌≤◌, [], 
 ghost use Rattle.std.specs.Bool.{OnTrue, OnFalse};
 ghost use Rattle.kernel_model.specs.SemaphoreSet as definition;
 ghost use Rattle.sysv_sem.specs.Body.{IsBodyOf};
-ghost use Rattle.sysv_sem.specs.Packed.{TellsPacked};
 ghost use Rattle.sysv_sem.specs.Places.{width, semaphore_in, semaphores_in, AreValues};
-ghost use Rattle.body_fields.specs.Fields.{Reads, Refuses};
+ghost use Rattle.body_fields.specs.Fields.{Reads, Refuses, TellsPacked};
 ghost use Rattle.sysv_sem.specs.Reading.{counted_at, set_at};
 
 use crate::SemSet;
@@ -115,7 +114,7 @@ fn push_row(out: &mut Vec<Semaphore>, count: u8, bytes: &[u8])
 impl SemSet {
     /// Whether the bytes are the packed form of a set. It takes no memory.
     pub fn is_packed(bytes: &[u8]) -> bool
-        ensures { TellsPacked bytes.now result }
+        ensures { TellsPacked (λ set. IsBodyOf set bytes.now) result }
     {
         row_of(bytes).is_some()
     }

@@ -7,8 +7,7 @@ use Rattle.std.specs.Option.{option_and_then}
 use Rattle.std.proofs.lemmas.Bool.{and_from, cases_Bool, eq-eqb, eqb-true, false≢true, or_cases, or_left, or_right}
 use Rattle.pico_base.specs.declared.script.Script.{Script}
 use Rattle.rpc_frame.specs.declared.frame.Frame.{Frame}
-use Rattle.frame_bytes.specs.LimitTests.{is_frame}
-use Rattle.frame_bytes.proofs.LimitTestLaws.{frame-is}
+use Rattle.frame_bytes.specs.Limits.{is_frame}
 use Rattle.kernel_model.specs.Script.{IsSoundScript}
 use Rattle.world_model.specs.Node.{Node, is_born}
 use Rattle.world_model.specs.Run.{IsReachableWorld}
@@ -48,7 +47,7 @@ sends-may-go script p lines (s ∷ sends) are all =
     let there : Contains (others_in lines) s.0 =
     subst (λ ns. Contains ns s.0) (sym are) (in-others script p s.0 all.0.receiver all.0.other)
     in and_from (has_line lines s.0 && is_frame s.1) (may_send lines sends)
-    (and_from (has_line lines s.0) (is_frame s.1) (find-line lines s.0 there) (frame-is s.1 all.0.within))
+    (and_from (has_line lines s.0) (is_frame s.1) (find-line lines s.0 there) all.0.within)
     (sends-may-go script p lines sends are all.1)
 
 has-rule : (script : Script) (p : ℕ) (lines : List Line) (n : Node) (input : Input) (o : Option Step)

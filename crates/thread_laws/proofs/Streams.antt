@@ -6,7 +6,7 @@ use Rattle.pico_base.specs.declared.script.Script.{Script}
 use Rattle.rpc_frame.specs.declared.frame.Frame.{Frame}
 use Rattle.stream_pair.specs.declared.piece.Piece.{Piece}
 use Rattle.stamp_merge.proofs.Filters.{all-map}
-use Rattle.frame_bytes.specs.Frames.{IsFrame}
+use Rattle.frame_bytes.specs.Ranges.{IsFrame}
 use Rattle.world_model.specs.Node.{Node}
 use Rattle.world_model.specs.World.{IsNode}
 use Rattle.log_laws.specs.Logs.{StampedFrame, frame_if, sent_to, stamped, Input, Runs, Takes, Log, sends_of, sent_in, taken_if, takes_of, taken_in, AreConsistent}

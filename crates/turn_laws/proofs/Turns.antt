@@ -1,10 +1,10 @@
 -- A turn in a world that a run leads to is an event of that world, and what it leads to is a world of a run.
-use Rattle.std.proofs.Common.{◌≡◌, ℕ, Bool, true, false, ◌&&◌, ◌||◌, if◌then◌else◌, List, [], ◌∷◌, ◌++◌, Option, Some, None, refl, ap, sym, subst, ◌∙◌}
+use Rattle.std.proofs.Common.{◌≡◌, ℕ, Bool, true, ◌&&◌, ◌||◌, List, [], ◌∷◌, ◌++◌, Some, refl, ap, sym, subst, ◌∙◌}
 use Rattle.std.proofs.lemmas.Bool.{lt-ltb}
 use Rattle.pico_base.specs.declared.script.Event.{Event}
 use Rattle.pico_base.specs.declared.script.Script.{Script}
 use Rattle.rpc_frame.specs.declared.frame.Frame.{Frame}
-use Rattle.kernel_laws.proofs.Plain.{from_some}
+use Rattle.kernel_laws.proofs.Plain.{from_some, if-some, of-some}
 use Rattle.kernel_model.specs.Script.{IsSoundScript}
 use Rattle.world_model.specs.Node.{Node, can_run, is_born}
 use Rattle.world_model.specs.Run.{IsReachableWorld, Runs as EventsLead}
@@ -17,7 +17,6 @@ use Rattle.world_laws.specs.Sights.{node_of}
 use Rattle.world_laws.proofs.Changes.{Changes}
 use Rattle.world_laws.proofs.Steps.{Heads, changes-by-run, changes-by-take, node-there, run-steps, taken-steps, world_without}
 use Rattle.bound_laws.specs.Bounded.{IsShapedAndBounded, StepIsBounded}
-use Rattle.bound_laws.proofs.Parts.{of-some}
 use Rattle.bound_laws.proofs.Runs.{reachable-is-bounded}
 use Rattle.bound_laws.proofs.Turns.{run-turn-bounded, take-turn-bounded}
 use Rattle.bound_laws.proofs.Worlds.{head-is-bounded, to-nodes}
@@ -25,11 +24,6 @@ use Rattle.log_laws.specs.Logs.{Input, Runs, Takes, StampedFrame, turn_on}
 use Rattle.log_laws.specs.Merge.{event_at}
 use Rattle.log_laws.specs.Follows.{StandsFirst}
 use Rattle.turn_laws.specs.Laws.{IsTurnIn, may_turn}
-
-if-some : {A : Type 0} (b : Bool) (o : Option A) (x : A) → (if b then o else None) ≡ Some x
-    → (b ≡ true) × (o ≡ Some x)
-if-some true o x h = (refl, h)
-if-some false o x h = absurd (cc)
 
 both-true : (a b : Bool) → a ≡ true → b ≡ true → (a && b) ≡ true
 both-true a b h g = rw (h, g) refl

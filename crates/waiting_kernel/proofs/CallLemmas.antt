@@ -134,10 +134,12 @@ module _ (k : Kernel) (pid : ℕ) (call : Call) (n : ℕ) where
           ∙ ap (λ (b : Bool). if b then outcome_of pid call (effect k (waiter pid call) a n) else None) m
 
   -- what a fault says
-  pub fault-is : (mid : Kernel) (fault : CallFault) → option_map_or (λ a. may_make a call) (living_at k pid) false ≡ true
+  pub fault-is : (mid : Kernel) (fault : CallFault)
+      → option_map_or (λ a. may_make a call) (living_at k pid) false ≡ true
       → IfSome (living_at k pid) (λ a. Answers (effect k (waiter pid call) a n) call (Err fault) k mid)
       → ((err fault ≡ err NotAllowed) ↔ (transition k pid (Plain call) n ≡ None)) × (mid ≡ k)
   fault-is mid NotAllowed allowed answer =
       let none = not-made-whole mid allowed answer in (((λ _. none.0), (λ _. refl)), none.1)
   fault-is mid Memory allowed answer =
-      let could = could-be-made mid allowed answer in (((λ same. absurd (cc)), (λ none. absurd (could.0 none))), could.1)
+      let could = could-be-made mid allowed answer
+      in (((λ same. absurd (cc)), (λ none. absurd (could.0 none))), could.1)

@@ -13,8 +13,8 @@ use Rattle.waiting_kernel.specs.At.{CarriesAt, changed_at}
 use Rattle.waiting_kernel.specs.Done.{IsCarried}
 
 -- a call that was carried out there
-pub carried-lands : {T : Type 0} (carry : Awaited T → Carried T) (m es : Numbered (Awaited T)) (id : ℕ) (v w : Awaited T)
-    (call : Call) (done : Done)
+pub carried-lands : {T : Type 0} (carry : Awaited T → Carried T) (m es : Numbered (Awaited T)) (id : ℕ)
+    (v w : Awaited T) (call : Call) (done : Done)
     → IsRising m → get m id ≡ Some v → IsCarried (carry v) call w done → es ≡ set_value (is_at (nat_cmp id)) m w
     → CarriesAt carry m id call es done
 carried-lands carry m es id v w call done rising there c written =

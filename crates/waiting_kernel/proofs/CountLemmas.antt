@@ -16,6 +16,7 @@ counts p xs i x there =
     sym (fold_more (λ a y. a + cond (p y) 1 0) 0 xs i x (slice_get_within xs i x there)
     ∙ ap (λ z. count_by p (take i xs) + cond (p z) 1 0) (get_or_from_slice_get xs i x x there))
 
+-- a count that goes on by one waiter
 pub count-step : (test : Option SemStep → Bool) (object : Awaited SemaphoreSet) (i n m : ℕ) (stop : Option SemStep)
     → StopsAt object i stop
     → n ≡ count_by (λ w. test (stop_of object.state (steps_of w.call))) (take i object.waiters)

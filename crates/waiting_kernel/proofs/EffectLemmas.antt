@@ -28,7 +28,8 @@ use Rattle.waiting_kernel.specs.Table.{with_answers}
 use Rattle.waiting_kernel.specs.Waiters.{eidrm_for}
 
 -- those who are woken, as wakes and as pairs
-answers-are : (wakes : List Wake) (ps : Numbered Process) → fold wake_one ps wakes ≡ with_answers ps (map woken_pair wakes)
+answers-are : (wakes : List Wake) (ps : Numbered Process)
+    → fold wake_one ps wakes ≡ with_answers ps (map woken_pair wakes)
 answers-are [] ps = refl
 answers-are (w ∷ wakes) ps = answers-are wakes (wake_one ps w)
 
@@ -39,7 +40,9 @@ refusals-are (w ∷ ws) = ap (λ (xs : List (ℕ × Reply)). eidrm_for w ∷ xs)
 with_queues : Kernel → Numbered (Awaited Queue) → Numbered Process → Kernel
 with_queues k queues ps = record k { queues = queues; processes = ps }
 
-pub queue-done : (k new : Kernel) (id : ℕ) (who : Waiting) (call : Call) (queues : Numbered (Awaited Queue)) (done : Done)
+-- a call that was carried out on a queue is done
+pub queue-done : (k new : Kernel) (id : ℕ) (who : Waiting) (call : Call) (queues : Numbered (Awaited Queue))
+    (done : Done)
     → CarriesAt (λ q. carry_out_on_queue q who) k.queues id call queues done
     → new ≡ record k { queues = queues; processes = with_answers k.processes (woken_of done) }
     → IsDone (on_queue k id who) call new done
@@ -70,6 +73,7 @@ queue-done k new id who call queues done carried is = at (get k.queues id) carri
           parks = h.parks;
         }
 
+-- a queue that is there is removed, and whoever waits there is woken
 pub queue-removed : (k new : Kernel) (id : ℕ) (q : Awaited Queue) (call : Call) (woken : List (ℕ × Reply))
     → get k.queues id ≡ Some q
     → woken ≡ map eidrm_for q.waiters
@@ -95,6 +99,7 @@ queue-removed k new id q call woken there told is =
 with_sets : Kernel → Numbered (Awaited SemaphoreSet) → Numbered Process → Kernel
 with_sets k sets ps = record k { sets = sets; processes = ps }
 
+-- a call that was carried out on a set is done
 pub set-done : (k new : Kernel) (id : ℕ) (who : Waiting) (call : Call) (sets : Numbered (Awaited SemaphoreSet))
     (done : Done)
     → CarriesAt (λ s. carry_out_on_set s who) k.sets id call sets done
@@ -127,6 +132,7 @@ set-done k new id who call sets done carried is = at (get k.sets id) carried
           parks = h.parks;
         }
 
+-- a set that is there is removed, and whoever waits there is woken
 pub set-removed : (k new : Kernel) (id : ℕ) (s : Awaited SemaphoreSet) (call : Call) (woken : List (ℕ × Reply))
     → get k.sets id ≡ Some s
     → woken ≡ map eidrm_for s.waiters

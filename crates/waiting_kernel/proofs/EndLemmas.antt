@@ -58,7 +58,8 @@ there-still ps parent v NotYet found = tt
 there-still ps parent v NoChild found = tt
 
 -- where a process lives, what holds of all that may be put there holds
-pub there-changed : (ps es : Numbered Process) (parent : ℕ) (f : Alive → Alive) (w : Waited) → IsSome (living_in ps parent)
+pub there-changed : (ps es : Numbered Process) (parent : ℕ) (f : Alive → Alive) (w : Waited)
+    → IsSome (living_in ps parent)
     → IfLiving ps parent (λ a. es ≡ put ps parent (Living (f a)))
     → IsFoundIn ps parent w
     → IsThere es w

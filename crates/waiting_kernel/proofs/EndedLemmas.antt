@@ -84,7 +84,9 @@ found-in ps parents pid c ending w t lives listed is = at (living_in ps pid) ref
             let kept = t.kept pid child a here k in (kept.0, apart child kept.1 (nat_eq pid child) refl)
         one child (inr same) = let o = t.listed pid c a here l in (rw same o.0, rw same (flip c pid o.1))
 
-        found : (v : Waited) → ((child : ℕ) (e : Ending) → v ≡ Found child e → keeps (family_after_end a.row.family c ending (ignores_children a.row)) child ≡ true)
+        found : (v : Waited)
+            → ((child : ℕ) (e : Ending) → v ≡ Found child e
+            → keeps (family_after_end a.row.family c ending (ignores_children a.row)) child ≡ true)
             → IsFoundIn ps pid v
         found (Found child e) kept =
             one child (kept-or-ended a.row.family c ending (ignores_children a.row) child (kept child e refl))
@@ -96,7 +98,8 @@ found-in ps parents pid c ending w t lives listed is = at (living_in ps pid) ref
         waiting None = tt
         waiting (Some which) =
             found (wait (family_after_end a.row.family c ending (ignores_children a.row)) which)
-            (λ child e is. waited-kept (family_after_end a.row.family c ending (ignores_children a.row)) which child e is)
+            (λ child e is.
+            waited-kept (family_after_end a.row.family c ending (ignores_children a.row)) which child e is)
 
 -- each of the ended children is among them
 kept-at : (es : List EndedChild) (k : ℕ) (d : EndedChild) → k < length es

@@ -31,7 +31,8 @@ pub change-lands : (ps es : Numbered Process) (pid : ℕ) (change : Change) (v w
     → w ≡ where_living (after_change change) v → es ≡ set_value (is_at (nat_cmp pid)) ps w
     → IfLiving ps pid (λ a. es ≡ put ps pid (Living (after_change change a)))
 change-lands ps es pid change v w rising there is written =
-    lands ps es pid (after_change change) v w rising there (λ a living. is ∙ ap (where_living (after_change change)) living) written
+    lands ps es pid (after_change change) v w rising there
+    (λ a living. is ∙ ap (where_living (after_change change)) living) written
 
 -- so is a new child
 pub child-lands : (ps es : Numbered Process) (pid child : ℕ) (v w : Process) → IsRising ps → get ps pid ≡ Some v

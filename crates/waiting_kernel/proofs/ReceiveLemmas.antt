@@ -42,7 +42,8 @@ receive-goes q pid class size noerror false = selected (select q.messages class)
 
     selected : (o : Option ℕ) → is_inside q o ≡ is_some (try_receive q false (receive_from q pid size noerror o))
     selected None = refl
-    selected (Some place) = there place (slice_get q.messages place) (nat_lt place (length q.messages)) (inside q.messages place)
+    selected (Some place) =
+        there place (slice_get q.messages place) (nat_lt place (length q.messages)) (inside q.messages place)
       where
         inside : (ms : List Message) (n : ℕ) → nat_lt n (length ms) ≡ is_some (slice_get ms n)
         inside [] n = none n

@@ -164,7 +164,8 @@ module _ {T : Type 0} (try : Try T) where
       }
 
   -- where nobody can go on settling is done
-  pub settles-done : (start now next : Awaited T) (woken : List (ℕ × Reply)) (left : ℕ) → SettlesOn try start woken left now
+  pub settles-done : (start now next : Awaited T) (woken : List (ℕ × Reply)) (left : ℕ)
+      → SettlesOn try start woken left now
       → WakesFirst try now next None
       → IsSettling (settle try start) next woken
   settles-done start now next woken left on wakes = here (first_ready try now.state now.waiters) refl wakes

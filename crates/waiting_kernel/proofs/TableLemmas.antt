@@ -27,6 +27,7 @@ pub living-put_other : (ps : Numbered Process) (k q : ℕ) (v : Process) → nat
     → living_in (put ps k v) q ≡ living_in ps q
 living-put_other ps k q v apart = ap (option_and_then alive_in) (get-put-apart ps k q v apart)
 
+-- what is there is there after a change
 pub there-put : (ps : Numbered Process) (k q : ℕ) (v : Process) → is_some (get ps q) ≡ true
     → is_some (get (put ps k v) q) ≡ true
 there-put ps k q v there = at (nat_eq q k) refl
@@ -221,6 +222,7 @@ others-list : (f : Family) (c : ℕ) (ending : Ending) (b : Bool) (child : ℕ)
     → lists f child ≡ true
 others-list f c ending b child h = kept-filter (nat_eq child) (λ x. not (nat_eq c x)) f.living h
 
+-- who is kept after a child's end was kept before, or is that child
 pub kept-or-ended : (f : Family) (c : ℕ) (ending : Ending) (b : Bool) (child : ℕ)
     → keeps (family_after_end f c ending b) child ≡ true
     → (keeps f child ≡ true) ⊎ (child ≡ c)

@@ -59,12 +59,14 @@ copy-next (x ∷ xs) (v ∷ vs) (suc i) s inside alike read =
     in let same : length vs ≡ length xs = omega (arith, alike)
     in ap (λ (ys : List ℕ). x.value ∷ ys) (copy-next xs vs i s left same read)
 
+-- one value more is copied
 pub copy-step : (S : List Semaphore) (V ys : List ℕ) (i : ℕ) (s : Semaphore) → i < length S → length V ≡ length S
     → ys ≡ take i (values_of S) ++ drop i V
     → s ≡ get_or S i s
     → set ys i s.value ≡ take (i + 1) (values_of S) ++ drop (i + 1) V
 copy-step S V ys i s inside alike is read = rw (add-one, is) (copy-next S V i s inside alike read)
 
+-- all are copied
 pub copy-done : (S : List Semaphore) (V : List ℕ) (n : ℕ) → length S ≤ n → length V ≡ length S
     → take n (values_of S) ++ drop n V ≡ values_of S
 copy-done S V n all alike =

@@ -10,12 +10,12 @@ use Rattle.world_model.specs.Node.{Node}
 use Rattle.world_model.specs.Step.{Step}
 use Rattle.world_model.specs.Starting.{run}
 use Rattle.world_model.specs.Turn.{take_by_kind}
-use Rattle.world_model.specs.World.{World, node_at, stream, node_count, world_after, after_turn, runs_at}
-use Rattle.world_laws.specs.ByRules.{step_by_rules, takes_by_rules}
+use Rattle.world_model.specs.World.{World, node_at, node_count, world_after, after_turn, runs_at}
+use Rattle.world_laws.specs.ByRules.{step_by_rules}
 use Rattle.world_laws.specs.Places.{CallPlace, call_in}
 use Rattle.world_laws.specs.Sights.{node_of}
 use Rattle.world_laws.specs.Invariant.{IsShaped}
-use Rattle.world_laws.proofs.Steps.{Heads, world_without, take-steps, run-steps, node-there}
+use Rattle.world_laws.proofs.Steps.{Heads, world_without, take-steps, run-steps, node-there, turn-with}
 use Rattle.weight_laws.specs.Weights.{Falls, calls_weight, call_weight, frame_weight, node_weight, sends_weight, weight}
 use Rattle.weight_laws.proofs.Sums.{call-moves, sent-all, sum-set, taken-one}
 
@@ -48,10 +48,7 @@ take-falls script w p q frame rest call call_after shape h lowers next is =
         → weight script next call_after < weight script w call
     by-rule None e =
         let stuck : step_by_rules w (events.Take p q) ≡ None =
-        ap (λ x. takes_by_rules w p q x (stream w p q)) (node-there script w shape p h.low h.high)
-        ∙ ap (takes_by_rules w p q (Some (node_of w p))) h.head
-        ∙ ap (after_turn (world_without w p q rest) p)
-        (ap (λ x. take_by_kind x (node_of w p) q frame) shape.of_script ∙ e)
+        turn-with take_by_kind script w p q frame rest shape h ∙ ap (after_turn (world_without w p q rest) p) e
         in not_some next (sym stuck ∙ is)
     by-rule (Some s) e =
         let there : step_by_rules w (events.Take p q) ≡ Some (world_after (world_without w p q rest) p s) =

@@ -1,6 +1,5 @@
 -- Where a caller is once its reply has come: the line is due again, or the next one is.
 use Rattle.std.proofs.Common.{◌≡◌, ℕ, zero, suc, ◌+◌, ◌<◌, ◌≤◌, Bool, true, false, ◌&&◌, if◌then◌else◌, nat_lt, List, [], ◌∷◌, take, drop, slice_get, sum_by, Option, Some, None, refl, ap, sym, subst, ◌∙◌, inl, inr, arith}
-use Rattle.std.specs.List.{AllByRecursion}
 use Rattle.std.proofs.lemmas.Bool.{ltb-true, false≢true}
 use Rattle.std.proofs.lemmas.Option.{slice_get_within, get_or_from_slice_get}
 use Rattle.std.proofs.lemmas.List.Sums.{sum_by_more}
@@ -8,6 +7,7 @@ use Rattle.pico_base.specs.declared.call.Call.{Call}
 use Rattle.pico_base.specs.declared.reply.Reply.{Reply}
 use Rattle.pico_base.specs.declared.script.Line.{Line}
 use Rattle.pico_base.specs.declared.script.Script.{Script}
+use Rattle.kernel_laws.proofs.Lists.{all-at}
 use Rattle.kernel_model.specs.Fitting.{Place, IsDue, due, call_due, asks_again, set_variable, value_in, place_after, after_line}
 use Rattle.node_model.specs.Caller.{Caller, lines_of, caller_place, answer_call, answer_at, end_call}
 use Rattle.world_laws.specs.Callers.{tries_made, HasTryLeft, HasTries}
@@ -38,13 +38,6 @@ tries-next : (xs : List Line) (i : ℕ) (x : Line) → slice_get xs i ≡ Some x
 tries-next xs i x h =
     sum_by_more (λ (line : Line). line.tries) xs i x (slice_get_within xs i x h)
     ∙ ap (λ (z : Line). sum_by (λ line. line.tries) (take i xs) + z.tries) (get_or_from_slice_get xs i x x h)
-
--- what holds of each line holds of the one at a place
-pub all-at : {A : Type 0} (P : A → Type 0) (xs : List A) (i : ℕ) (x : A) → AllByRecursion P xs → slice_get xs i ≡ Some x
-    → P x
-all-at P [] i x all h = absurd (none-is-some x h)
-all-at P (y ∷ xs) zero x all h = subst P (same-in-some y x h) all.0
-all-at P (y ∷ xs) (suc i) x all h = all-at P xs i x all.1 h
 
 -- a call is due at a line
 pub due-at-line : (script : Script) (p : ℕ) (c : Caller) (call : Call) → IsDue (caller_place script p c) call

@@ -1,5 +1,5 @@
 -- A node's turn as a step of the world, and what it changes there.
-use Rattle.std.proofs.Common.{◌≡◌, ◌≢◌, ◌⊎◌, ℕ, zero, suc, ◌-◌, ◌<◌, ◌≤◌, Bool, true, false, ◌&&◌, if◌then◌else◌, List, [], ◌∷◌, ◌++◌, length, set, slice_get, get_or, nat_eq, Some, None, unwrap_or, refl, ap, sym, subst, ◌∙◌, inl, inr, arith, append-nil}
+use Rattle.std.proofs.Common.{◌≡◌, ◌≢◌, ◌⊎◌, ℕ, zero, suc, ◌-◌, ◌<◌, ◌≤◌, Bool, true, false, ◌&&◌, if◌then◌else◌, List, [], ◌∷◌, ◌++◌, length, set, slice_get, get_or, nat_eq, Option, Some, None, unwrap_or, refl, ap, sym, subst, ◌∙◌, inl, inr, arith, append-nil}
 use Rattle.std.proofs.lemmas.Bool.{cases_eq, eq-eqb, ne_eqb, lt-ltb, le-ltb}
 use Rattle.std.proofs.lemmas.List.{length-set}
 use Rattle.std.proofs.lemmas.Option.{slice_get-get_or}
@@ -7,12 +7,12 @@ use Rattle.pico_base.specs.declared.script.Script.{Script}
 use Rattle.pico_base.specs.declared.script.Event.{Event}
 use Rattle.pico_base.specs.declared.script.Event.TheVariants as events
 use Rattle.rpc_frame.specs.declared.frame.Frame.{Frame}
-use Rattle.world_model.specs.Node.{unborn_node}
+use Rattle.world_model.specs.Node.{Node, unborn_node}
 use Rattle.world_model.specs.Step.{Step}
 use Rattle.world_model.specs.Turn.{take_by_kind, take_frame}
 use Rattle.world_model.specs.Starting.{run}
-use Rattle.world_model.specs.World.{World, node_at, stream, stream_in, with_stream, with_all_sent, node_count, world_after, after_turn, takes_at, runs_at, step, is_number}
-use Rattle.world_laws.specs.ByRules.{step_by_rules, takes_by_rules}
+use Rattle.world_model.specs.World.{World, node_at, stream, stream_in, with_stream, with_all_sent, node_count, world_after, after_turn, takes_with, runs_at, step, is_number}
+use Rattle.world_laws.specs.ByRules.{step_by_rules}
 use Rattle.world_laws.specs.Places.{Beside}
 use Rattle.world_laws.specs.Sights.{node_of, frames_to}
 use Rattle.world_laws.specs.Callers.{HasTries}
@@ -64,25 +64,30 @@ node-there script w s p low high =
     (sym (ap (λ b. unwrap_or (if b then node_at w p else None) (unborn_node p)) (lt-ltb 0 p (omega arith))
     ∙ ap (λ o. unwrap_or o (unborn_node p)) there))
 
+-- a node takes the frame at a head by any rule: the turn that this gives
+pub turn-with : (rule : Script → Node → ℕ → Frame → Option Step) (script : Script) (w : World) (p q : ℕ)
+    (frame : Frame) (rest : List Frame)
+    → IsShaped script w → Heads script w p q frame rest
+    → takes_with rule w p q (node_at w p) (stream w p q)
+    ≡ after_turn (world_without w p q rest) p (rule script (node_of w p) q frame)
+turn-with rule script w p q frame rest shape h =
+    ap (λ x. takes_with rule w p q x (stream w p q)) (node-there script w shape p h.low h.high)
+    ∙ ap (takes_with rule w p q (Some (node_of w p))) h.head
+    ∙ ap (λ (x : Script). after_turn (world_without w p q rest) p (rule x (node_of w p) q frame)) shape.of_script
+
 -- a node that takes a frame by a rule: the world's step by the rules
 pub take-steps : (script : Script) (w : World) (p q : ℕ) (frame : Frame) (rest : List Frame) (s : Step)
     → IsShaped script w → Heads script w p q frame rest → take_by_kind script (node_of w p) q frame ≡ Some s
     → step_by_rules w (events.Take p q) ≡ Some (world_after (world_without w p q rest) p s)
 take-steps script w p q frame rest s shape h rule =
-    ap (λ x. takes_by_rules w p q x (stream w p q)) (node-there script w shape p h.low h.high)
-    ∙ ap (takes_by_rules w p q (Some (node_of w p))) h.head
-    ∙ ap (after_turn (world_without w p q rest) p)
-    (ap (λ x. take_by_kind x (node_of w p) q frame) shape.of_script ∙ rule)
+    turn-with take_by_kind script w p q frame rest shape h ∙ ap (after_turn (world_without w p q rest) p) rule
 
 -- a node that takes a frame: the world's step
 pub taken-steps : (script : Script) (w : World) (p q : ℕ) (frame : Frame) (rest : List Frame) (s : Step)
     → IsShaped script w → Heads script w p q frame rest → take_frame script (node_of w p) q frame ≡ Some s
     → step w (events.Take p q) ≡ Some (world_after (world_without w p q rest) p s)
 taken-steps script w p q frame rest s shape h rule =
-    ap (λ x. takes_at w p q x (stream w p q)) (node-there script w shape p h.low h.high)
-    ∙ ap (takes_at w p q (Some (node_of w p))) h.head
-    ∙ ap (after_turn (world_without w p q rest) p)
-    (ap (λ x. take_frame x (node_of w p) q frame) shape.of_script ∙ rule)
+    turn-with take_frame script w p q frame rest shape h ∙ ap (after_turn (world_without w p q rest) p) rule
 
 -- a node that starts a call: the world's step
 pub run-steps : (script : Script) (w : World) (p : ℕ) (s : Step)

@@ -13,18 +13,18 @@ use Rattle.world_model.specs.Step.{Step}
 use Rattle.world_model.specs.Starting.{run}
 use Rattle.world_model.specs.Turn.{take_by_kind, take_frame}
 use Rattle.world_laws.proofs.ByRules.{taken-by-kind}
-use Rattle.world_model.specs.World.{World, after_turn, is_enabled, node_at, node_count, numbers, opening_world, runs_at, step, stream, takes_at, world_after}
+use Rattle.world_model.specs.World.{World, after_turn, is_enabled, node_at, node_count, numbers, opening_world, runs_at, step, world_after}
 use Rattle.world_laws.specs.Sights.{node_of}
 use Rattle.world_laws.proofs.Changes.{Changes, frames_if, sent, taken}
 use Rattle.world_laws.proofs.Sends.{frame_if, frames_with}
-use Rattle.world_laws.proofs.Steps.{Heads, changes-by-run, changes-by-take, frames-low, node-there, world_without}
+use Rattle.world_laws.proofs.Steps.{Heads, changes-by-run, changes-by-take, frames-low, node-there, turn-with, world_without}
 use Rattle.rule_laws.proofs.own.Enabled.{IsRun, enabled-runs}
 use Rattle.rule_laws.proofs.Enabled.{IsTaken, enabled-takes}
 use Rattle.limit_laws.specs.Within.{IsFrameWithin, IsNodeWithin, IsSentWithin, IsStepWithin}
-use Rattle.limit_laws.proofs.Tables.{all-at, all-both, of-some}
+use Rattle.kernel_laws.proofs.Plain.{of-some}
 use Rattle.limit_laws.proofs.Turns.{opening-within, sent-has-variables, started-within, taken-within, unborn-within}
 use Rattle.bound_laws.specs.Bounded.{IsShapedAndBounded, StepIsBounded}
-use Rattle.bound_laws.proofs.Parts.{all-parts}
+use Rattle.kernel_laws.proofs.Lists.{all-at, all-both, all-parts}
 use Rattle.bound_laws.proofs.Runs.{nothing-on-its-way}
 use Rattle.bound_laws.proofs.Turns.{run-turn-bounded, take-turn-bounded}
 use Rattle.bound_laws.proofs.Worlds.{head-is-bounded, to-nodes}
@@ -105,11 +105,7 @@ module _ (script : Script) where
         in let h : Heads script w p q t.frame t.rest = t.heads
         in let after : after_turn (world_without w p q t.rest) p (take_frame script (node_of w p) q t.frame)
         ≡ Some next =
-        sym (ap (λ o. takes_at w p q o (stream w p q)) (node-there script w b.shape p h.low h.high)
-        ∙ ap (takes_at w p q (Some (node_of w p))) h.head
-        ∙ ap (λ (x : Script). after_turn (world_without w p q t.rest) p (take_frame x (node_of w p) q t.frame))
-        b.shape.of_script)
-        ∙ steps
+        sym (turn-with take_frame script w p q t.frame t.rest b.shape h) ∙ steps
         in let found =
         after-some (world_without w p q t.rest) next p (take_frame script (node_of w p) q t.frame) after
         in let s : Step = found.0

@@ -1,4 +1,5 @@
--- Worked examples, computed by the checker: frames that may come, and frames that may not, whatever the node's state is.
+-- Worked examples, computed by the checker: frames that may come, and frames that may not, whatever the node's state
+-- is.
 use Rattle.std.specs.Prelude.{◌≡◌, ℕ, true, false, List, [], ◌∷◌, None, refl}
 use Rattle.pico_base.specs.declared.call.Call.TheVariants as calls
 use Rattle.pico_base.specs.declared.numbers.Name.TheVariants.{Proc, Msg}

@@ -26,7 +26,7 @@ use Rattle.signal_state.specs.Spelling.{signal_bytes}
 use Rattle.fork_wait.specs.Spelling.{family_bytes}
 use Rattle.fork_wait.specs.Reading.{family_at, numbers_at, all_ended_at, ended_at}
 use Rattle.body_fields.specs.Fields.{byte_upto, number_upto}
-use Rattle.sysv_msg.specs.Reading.{text_at, class_at, message_at, messages_at, fields_at as queue_fields_at, queue_at}
+use Rattle.sysv_msg.specs.Reading.{text_at, class_at, message_at, messages_at, all_messages_at, fields_at as queue_fields_at, queue_at}
 use Rattle.sysv_sem.specs.Reading.{semaphore_at, semaphores_at, fields_at as set_fields_at, counted_at, set_at}
 
 -- a queue at node 1, and a child that asks for it there
@@ -57,7 +57,7 @@ pub both_find_nothing_journal : at_rest_journal (opening_world both_find_nothing
     ∷ [])
 unfolding may_come read_deed read_body body_bytes row_bytes read_process read_row read_signals
     read_family read_queue read_set signal_bytes family_bytes family_at numbers_at all_ended_at ended_at
-    byte_upto number_upto text_at class_at message_at messages_at queue_fields_at queue_at semaphore_at
+    byte_upto number_upto text_at class_at message_at messages_at all_messages_at queue_fields_at queue_at semaphore_at
     semaphores_at set_fields_at counted_at set_at
 both_find_nothing_journal = refl
 
@@ -106,7 +106,7 @@ pub queue_moves_journal : at_rest_journal (opening_world queue_moves) queue_move
     ∷ [])
 unfolding may_come read_deed read_body body_bytes row_bytes read_process read_row read_signals
     read_family read_queue read_set signal_bytes family_bytes family_at numbers_at all_ended_at ended_at
-    byte_upto number_upto text_at class_at message_at messages_at queue_fields_at queue_at semaphore_at
+    byte_upto number_upto text_at class_at message_at messages_at all_messages_at queue_fields_at queue_at semaphore_at
     semaphores_at set_fields_at counted_at set_at
 queue_moves_journal = refl
 
@@ -142,7 +142,7 @@ pub owner_exits_journal : at_rest_journal (opening_world owner_exits) owner_exit
     ∷ [])
 unfolding may_come read_deed read_body body_bytes row_bytes read_process read_row read_signals
     read_family read_queue read_set signal_bytes family_bytes family_at numbers_at all_ended_at ended_at
-    byte_upto number_upto text_at class_at message_at messages_at queue_fields_at queue_at semaphore_at
+    byte_upto number_upto text_at class_at message_at messages_at all_messages_at queue_fields_at queue_at semaphore_at
     semaphores_at set_fields_at counted_at set_at
 owner_exits_journal = refl
 
@@ -194,7 +194,7 @@ pub removal_during_a_move_journal : journal_of (opening_world removal_during_a_m
     ∷ [])
 unfolding may_come read_deed read_body body_bytes row_bytes read_process read_row read_signals
     read_family read_queue read_set signal_bytes family_bytes family_at numbers_at all_ended_at ended_at
-    byte_upto number_upto text_at class_at message_at messages_at queue_fields_at queue_at semaphore_at
+    byte_upto number_upto text_at class_at message_at messages_at all_messages_at queue_fields_at queue_at semaphore_at
     semaphores_at set_fields_at counted_at set_at
 removal_during_a_move_journal = refl
 
@@ -245,7 +245,7 @@ pub cache_is_stale_journal : journal_of (opening_world cache_is_stale) cache_is_
     ∷ [])
 unfolding may_come read_deed read_body body_bytes row_bytes read_process read_row read_signals
     read_family read_queue read_set signal_bytes family_bytes family_at numbers_at all_ended_at ended_at
-    byte_upto number_upto text_at class_at message_at messages_at queue_fields_at queue_at semaphore_at
+    byte_upto number_upto text_at class_at message_at messages_at all_messages_at queue_fields_at queue_at semaphore_at
     semaphores_at set_fields_at counted_at set_at
 cache_is_stale_journal = refl
 
@@ -277,7 +277,7 @@ pub new_numbers_journal : journal_of (opening_world new_numbers) new_numbers_eve
     ∷ [])
 unfolding may_come read_deed read_body body_bytes row_bytes read_process read_row read_signals
     read_family read_queue read_set signal_bytes family_bytes family_at numbers_at all_ended_at ended_at
-    byte_upto number_upto text_at class_at message_at messages_at queue_fields_at queue_at semaphore_at
+    byte_upto number_upto text_at class_at message_at messages_at all_messages_at queue_fields_at queue_at semaphore_at
     semaphores_at set_fields_at counted_at set_at
 new_numbers_journal = refl
 
@@ -319,7 +319,7 @@ pub grandchildren_journal : journal_of (opening_world grandchildren) grandchildr
     ∷ [])
 unfolding may_come read_deed read_body body_bytes row_bytes read_process read_row read_signals
     read_family read_queue read_set signal_bytes family_bytes family_at numbers_at all_ended_at ended_at
-    byte_upto number_upto text_at class_at message_at messages_at queue_fields_at queue_at semaphore_at
+    byte_upto number_upto text_at class_at message_at messages_at all_messages_at queue_fields_at queue_at semaphore_at
     semaphores_at set_fields_at counted_at set_at
 grandchildren_journal = refl
 
@@ -396,7 +396,7 @@ pub nine_forks_journal : at_rest_journal (opening_world nine_forks) nine_forks_e
     ∷ [])
 unfolding may_come read_deed read_body body_bytes row_bytes read_process read_row read_signals
     read_family read_queue read_set signal_bytes family_bytes family_at numbers_at all_ended_at ended_at
-    byte_upto number_upto text_at class_at message_at messages_at queue_fields_at queue_at semaphore_at
+    byte_upto number_upto text_at class_at message_at messages_at all_messages_at queue_fields_at queue_at semaphore_at
     semaphores_at set_fields_at counted_at set_at
 nine_forks_journal = refl
 
@@ -423,7 +423,7 @@ pub asks_its_number_journal : at_rest_journal (opening_world asks_its_number) as
     ∷ [])
 unfolding may_come read_deed read_body body_bytes row_bytes read_process read_row read_signals
     read_family read_queue read_set signal_bytes family_bytes family_at numbers_at all_ended_at ended_at
-    byte_upto number_upto text_at class_at message_at messages_at queue_fields_at queue_at semaphore_at
+    byte_upto number_upto text_at class_at message_at messages_at all_messages_at queue_fields_at queue_at semaphore_at
     semaphores_at set_fields_at counted_at set_at
 asks_its_number_journal = refl
 
@@ -454,7 +454,7 @@ pub set_goes_home_journal : journal_of (opening_world set_goes_home) set_goes_ho
     ∷ [])
 unfolding may_come read_deed read_body body_bytes row_bytes read_process read_row read_signals
     read_family read_queue read_set signal_bytes family_bytes family_at numbers_at all_ended_at ended_at
-    byte_upto number_upto text_at class_at message_at messages_at queue_fields_at queue_at semaphore_at
+    byte_upto number_upto text_at class_at message_at messages_at all_messages_at queue_fields_at queue_at semaphore_at
     semaphores_at set_fields_at counted_at set_at
 set_goes_home_journal = refl
 
@@ -477,7 +477,7 @@ pub removed_queue_entries :
     ∷ [])
 unfolding may_come read_deed read_body body_bytes row_bytes read_process read_row read_signals
     read_family read_queue read_set signal_bytes family_bytes family_at numbers_at all_ended_at ended_at
-    byte_upto number_upto text_at class_at message_at messages_at queue_fields_at queue_at semaphore_at
+    byte_upto number_upto text_at class_at message_at messages_at all_messages_at queue_fields_at queue_at semaphore_at
     semaphores_at set_fields_at counted_at set_at
 removed_queue_entries = refl
 
@@ -489,6 +489,6 @@ pub refused_removal_entries : entries_after both_find_nothing (step_to moved_que
     ∷ [])
 unfolding may_come read_deed read_body body_bytes row_bytes read_process read_row read_signals
     read_family read_queue read_set signal_bytes family_bytes family_at numbers_at all_ended_at ended_at
-    byte_upto number_upto text_at class_at message_at messages_at queue_fields_at queue_at semaphore_at
+    byte_upto number_upto text_at class_at message_at messages_at all_messages_at queue_fields_at queue_at semaphore_at
     semaphores_at set_fields_at counted_at set_at
 refused_removal_entries = refl

@@ -1,6 +1,5 @@
 -- Keys of queues and sets: what they lead to, and msgget and semget by a key.
-use Rattle.std.specs.Prelude.{ℕ, not, ◌||◌, nat_eq, nat_le, length, if◌then◌else◌, Option, Some, None, Result, Ok, Err}
-use Rattle.std.specs.List.{filter}
+use Rattle.std.specs.Prelude.{ℕ, ◌||◌, nat_eq, nat_le, length, if◌then◌else◌, Option, Some, None, Result, Ok, Err}
 use Rattle.std.specs.Option.{option_map}
 use Rattle.pico_base.specs.declared.call.Call.{Call}
 use Rattle.pico_base.specs.declared.call.Call.TheVariants as calls
@@ -17,7 +16,7 @@ use Rattle.key_table.specs.declared.Bound.{Bound}
 use Rattle.key_table.specs.declared.KeyAnswer.{KeyAnswer}
 use Rattle.key_table.specs.declared.KeyAnswer.TheVariants as answers
 use Rattle.rpc_frame.specs.declared.asked.Asked.{Asked}
-use Rattle.number_maps.specs.Maps.{Numbered, get, put}
+use Rattle.number_maps.specs.Maps.{Numbered, get, put, without_value}
 use Rattle.kernel_model.specs.Queue.{empty_queue}
 use Rattle.kernel_model.specs.SemaphoreSet.{SemaphoreSet, new_set}
 use Rattle.node_model.specs.Kinds.{put_named}
@@ -30,8 +29,9 @@ use Rattle.world_model.specs.Numbers.{Taken, take_number}
 abbrev pub bind : Numbered Bound → ℕ → ℕ → ℕ → Numbered Bound
 bind keys key id count = put keys key (record { id = id; count = count })
 
+-- no key leads to the identifier any more
 abbrev pub unbind : Numbered Bound → ℕ → Numbered Bound
-unbind keys id = filter (λ e. not (nat_eq e.1.id id)) keys
+unbind keys id = without_value (λ bound. bound.id) keys id
 
 abbrev pub without_key : Leader → Name → Leader
 without_key l (Proc pid) = l

@@ -4,7 +4,7 @@ use Rattle.std.specs.List.{list_any}
 use Rattle.pico_base.specs.declared.script.Script.{Script}
 use Rattle.rpc_frame.specs.declared.frame.Frame.{Frame}
 use Rattle.rpc_frame.specs.declared.frame.Frame.TheVariants as frames
-use Rattle.frame_bytes.specs.LimitTests.{is_frame}
+use Rattle.frame_bytes.specs.Limits.{is_frame}
 use Rattle.node_model.specs.Leases.{leases_hold}
 use Rattle.world_model.specs.Node.{Node}
 use Rattle.world_model.specs.Step.{Step}

@@ -89,11 +89,16 @@ abbrev pub runs_at : World → ℕ → Option Node → Option World
 runs_at w p None = None
 runs_at w p (Some n) = after_turn w p (run w.script n)
 
+-- a frame is taken by this rule
+abbrev pub takes_with : (Script → Node → ℕ → Frame → Option Step) → World → ℕ → ℕ → Option Node → List Frame
+    → Option World
+takes_with rule w p from None frames_there = None
+takes_with rule w p from (Some n) [] = None
+takes_with rule w p from (Some n) (frame ∷ frames_left) =
+    after_turn (record w { streams = with_stream w.streams p from frames_left }) p (rule w.script n from frame)
+
 abbrev pub takes_at : World → ℕ → ℕ → Option Node → List Frame → Option World
-takes_at w p from None frames_there = None
-takes_at w p from (Some n) [] = None
-takes_at w p from (Some n) (frame ∷ frames_left) =
-    after_turn (record w { streams = with_stream w.streams p from frames_left }) p (take_frame w.script n from frame)
+takes_at w p from n frames_there = takes_with take_frame w p from n frames_there
 
 abbrev pub step : World → Event → Option World
 step w (events.Run p) = runs_at w p (node_at w p)

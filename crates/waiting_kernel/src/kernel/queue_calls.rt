@@ -88,8 +88,8 @@ impl Kernel {
     /// msgctl with IPC_RMID: EINVAL where there is no such queue. Whoever waits is woken.
     pub(super) fn remove_queue(&mut self, id: Id) -> Result<Done, CallFault>
         ensures { (call : Call)
-            → Answers (Some (on_named self.old (get self.old.queues id) (remove_queue self.old id))) call result self.old
-            self.new }
+            → Answers (Some (on_named self.old (get self.old.queues id) (remove_queue self.old id))) call result
+            self.old self.new }
     {
         let Some(queue) = self.queues.get(&id) else {
             return Ok(Done::alone(self.alloc, Reply::Fail(Errno::Einval)));

@@ -1,8 +1,8 @@
 use Rattle.std.proofs.Common.{◌≡◌, ℕ, ◌+◌, ◌<◌, [], ◌∷◌, length, get_or, drop, map, refl, sym, ap, subst, ◌∙◌, add-one, arith}
 use Rattle.std.proofs.lemmas.List.{drop_more, drop_all}
 use Rattle.rpc_frame.specs.declared.frame.Frame.{Frame}
-use Rattle.frame_bytes.specs.Frames.{IsFrame}
 use Rattle.frame_bytes.specs.Limits.{IsWithinLimits}
+use Rattle.frame_bytes.specs.Ranges.{IsFrame}
 use Rattle.log_model.specs.Turns.{with_sent}
 use Rattle.node_lines.proofs.Fronts.{AllFront, all_front-next, all_front-all}
 use Rattle.node_lines.proofs.Same.{AreSameLines-refl, AreSameLines-trans}

@@ -1,5 +1,5 @@
 use Rattle.std.proofs.Common.{◌≡◌, map, drop}
-use Rattle.frame_bytes.specs.Frames.{IsFrame}
+use Rattle.frame_bytes.specs.Ranges.{IsFrame}
 use Rattle.log_model.specs.Turns.{with_sent}
 use Rattle.node_lines.specs.Lines.{AreSameLines}
 use Rattle.node_lines.proofs.Fronts.{AllFront}

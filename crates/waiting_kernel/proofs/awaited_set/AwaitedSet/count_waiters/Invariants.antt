@@ -10,5 +10,6 @@ invariant-loop-place l =
       same : l.self ≡ l.initial.self;
       few : l.count ≤ l.place;
       counted : l.count
-          ≡ count_by (λ w. tests l.look l.num (stop_of l.initial.self.state (steps_of w.call))) (take l.place l.initial.self.waiters);
+          ≡ count_by (λ w. tests l.look l.num (stop_of l.initial.self.state (steps_of w.call)))
+          (take l.place l.initial.self.waiters);
     }

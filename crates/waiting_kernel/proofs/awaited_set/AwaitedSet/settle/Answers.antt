@@ -20,7 +20,8 @@ loop-round-preserved c =
       room = search rules;
       settles = rw c.push_reserved.ensures.items
           (settles-more try_set c.args.self.now c.loop-round.self c.wake_first.new.self c.loop-round.woken.items
-          (length c.args.self.now.waiters) c.loop-round.round c.in-Some.pair inside c.loop-round.invariant.settles wakes);
+          (length c.args.self.now.waiters) c.loop-round.round c.in-Some.pair inside c.loop-round.invariant.settles
+          wakes);
     }
 
 pub returns-in-None : goal.returns-in-None

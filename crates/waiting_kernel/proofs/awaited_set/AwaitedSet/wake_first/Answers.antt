@@ -18,5 +18,5 @@ returns-in-Some c =
 
 pub returns : goal.returns
 returns c =
-    wakes-nobody try_set c.args.self.now c.loop-place.self c.loop-place.place c.loop-place.invariant.wait (omega (arith, c.len-all.ensures.len))
-    c.loop-place.invariant.same
+    wakes-nobody try_set c.args.self.now c.loop-place.self c.loop-place.place c.loop-place.invariant.wait
+    (omega (arith, c.len-all.ensures.len)) c.loop-place.invariant.same
