@@ -1,5 +1,5 @@
 -- Stamps are at most places: a turn's stamp is the next one to that of a turn before it, or is 1.
-use Rattle.std.proofs.Common.{◌≡◌, ◌≢◌, ◌⊎◌, ℕ, ◌+◌, ◌<◌, ◌≤◌, List, [], ◌∷◌, length, max, refl, sym, subst, inl, inr, arith}
+use Rattle.std.proofs.Common.{◌≡◌, ◌≢◌, ◌⊎◌, ℕ, ◌+◌, ◌<◌, ◌≤◌, List, [], ◌∷◌, length, map, max, refl, sym, subst, inl, inr, arith}
 use Rattle.std.specs.List.{AllByRecursion, Contains}
 use Rattle.std.proofs.lemmas.Bool.{cases_eq, cases_lt}
 use Rattle.std.proofs.lemmas.List.Elements.{All-contains, All-contains_itself}
@@ -8,12 +8,13 @@ use Rattle.stamp_merge.proofs.Filters.{all-map}
 use Rattle.world_model.specs.Node.{Node}
 use Rattle.world_model.specs.World.{IsNode}
 use Rattle.log_laws.specs.Logs.{StampedFrame, Logged, Log, sent_in, taken_in, AreConsistent}
-use Rattle.log_laws.specs.Merge.{NodeTurn, IsBefore, AreInOrder, IsMerge}
+use Rattle.stamp_merge.specs.Merge.{IsBefore, AreInOrder}
+use Rattle.log_laws.specs.Merge.{NodeTurn, turn_item, IsMerge}
 use Rattle.log_laws.specs.Journal.{JournalEntry, IsJournalOf}
 use Rattle.log_laws.specs.Drawn.{IsStampOfTurn, IsKnownStamp, IsDrawnFrom, AreAtMostPlaces, StampsAreFew}
-use Rattle.log_laws.proofs.Lists.{all-of-log, left-all, not-below, stamps-of-sent}
+use Rattle.log_laws.proofs.Lists.{to-all, from-all, all-of-log, left-all, none-below, stamps-of-sent}
+use Rattle.log_laws.proofs.ByNode.{IsMergeByNode, by-node}
 use Rattle.log_laws.proofs.Journals.{stamps-of-journal}
-use Rattle.log_laws.proofs.Merged.{to-all, from-all}
 use Rattle.log_laws.proofs.Whole.{all-from-logs}
 
 -- ---- a known stamp in the merge
@@ -35,8 +36,8 @@ has-or-none stamp (t ∷ turns) =
       ]
     ]
 
-has-logged : (script : Script) (logs : ℕ → Log) (turns : List NodeTurn) (stamp : ℕ) → IsMerge script logs turns
-    → IsStampOfTurn script logs stamp → Has stamp turns
+has-logged : (script : Script) (logs : ℕ → Log) (turns : List NodeTurn) (stamp : ℕ)
+    → IsMergeByNode script logs turns → IsStampOfTurn script logs stamp → Has stamp turns
 has-logged script logs turns stamp merge is =
     elim (has-or-none stamp turns) [
       | inl has ↦ has
@@ -65,8 +66,8 @@ not-lower stamp low (u ∷ turns) all (inl e) = let high : low ≤ u.turn.stamp 
 not-lower stamp low (u ∷ turns) all (inr has) = not-lower stamp low turns all.1 has
 
 -- the first turn's is low
-first-low : (place : ℕ) (t : NodeTurn) (turns : List NodeTurn) → AllByRecursion (IsBefore t) turns
-    → IsNextTo place (t ∷ turns) t → t.turn.stamp ≤ place
+first-low : (place : ℕ) (t : NodeTurn) (turns : List NodeTurn)
+    → AllByRecursion (IsBefore (turn_item t)) (map turn_item turns) → IsNextTo place (t ∷ turns) t → t.turn.stamp ≤ place
 first-low place t turns before is =
     let next : t.turn.stamp ≡ is.known + 1 = is.next
     in elim is.is_known [
@@ -74,7 +75,7 @@ first-low place t turns before is =
       | inr has ↦
           let same : t.turn.stamp ≤ t.turn.stamp = omega arith
           in let high : t.turn.stamp ≤ is.known =
-          not-lower is.known t.turn.stamp (t ∷ turns) (same, all-map (λ (u : NodeTurn) b. not-below t u b) turns before)
+          not-lower is.known t.turn.stamp (t ∷ turns) (same, none-below t turns before)
           has
           in absurd (omega arith)
     ]
@@ -95,7 +96,7 @@ next-behind place t turns low u is =
       next = is.next;
     }
 
-at-most-places : (place : ℕ) (turns : List NodeTurn) → AreInOrder turns
+at-most-places : (place : ℕ) (turns : List NodeTurn) → AreInOrder (map turn_item turns)
     → AllByRecursion (IsNextTo place turns) turns → AreAtMostPlaces place turns
 at-most-places place [] order next = tt
 at-most-places place (t ∷ turns) order next =
@@ -113,8 +114,8 @@ low-places place high [] fits h = tt
 low-places place high (t ∷ turns) fits h =
     let low : t.turn.stamp ≤ place = h.0 in (omega arith, low-places (place + 1) high turns (omega arith) h.1)
 
-drawn-next : (script : Script) (logs : ℕ → Log) (turns : List NodeTurn) → IsMerge script logs turns → (t : NodeTurn)
-    → IsDrawnFrom script logs t.turn → IsNextTo 1 turns t
+drawn-next : (script : Script) (logs : ℕ → Log) (turns : List NodeTurn) → IsMergeByNode script logs turns
+    → (t : NodeTurn) → IsDrawnFrom script logs t.turn → IsNextTo 1 turns t
 drawn-next script logs turns merge t is =
     record {
       known = is.known;
@@ -128,19 +129,20 @@ drawn-next script logs turns merge t is =
 -- there are as few stamps as turns
 pub stamps_are_few_lemma : StampsAreFew
 stamps_are_few_lemma script logs turns merge drawn =
-    let all_drawn : AllByRecursion (λ (t : NodeTurn). IsDrawnFrom script logs t.turn) turns =
-    all-from-logs (IsDrawnFrom script logs) script turns merge.nodes (λ p is.
-    subst (AllByRecursion (IsDrawnFrom script logs)) (sym (merge.each p is)) (drawn p is))
+    let nodes : IsMergeByNode script logs turns = by-node script logs turns merge
+    in let all_drawn : AllByRecursion (λ (t : NodeTurn). IsDrawnFrom script logs t.turn) turns =
+    all-from-logs (IsDrawnFrom script logs) script turns nodes.nodes (λ p is.
+    subst (AllByRecursion (IsDrawnFrom script logs)) (sym (nodes.each p is)) (drawn p is))
     in let places : AreAtMostPlaces 1 turns =
-    at-most-places 1 turns merge.in_order
-    (all-map (λ (t : NodeTurn) is. drawn-next script logs turns merge t is) turns all_drawn)
+    at-most-places 1 turns nodes.in_order
+    (all-map (λ (t : NodeTurn) is. drawn-next script logs turns nodes t is) turns all_drawn)
     in let few : AllByRecursion (λ (t : NodeTurn). t.turn.stamp ≤ length turns) turns =
     low-places 1 (length turns) turns (omega arith) places
     in record {
       places = places;
       merged = few;
       logged = λ p is.
-          subst (AllByRecursion (λ (turn : Logged). turn.stamp ≤ length turns)) (merge.each p is)
+          subst (AllByRecursion (λ (turn : Logged). turn.stamp ≤ length turns)) (nodes.each p is)
           (all-of-log (λ (turn : Logged). turn.stamp ≤ length turns) p turns few);
     }
 

@@ -9,20 +9,19 @@ use Rattle.stamp_merge.specs.declared.Stamped.{Stamped}
 use Rattle.stamp_merge.specs.Merge as stamps
 use Rattle.stamp_merge.proofs.Merges.{own-item, others-item}
 use Rattle.world_model.specs.World.{IsNode, node_count}
-use Rattle.log_laws.specs.Logs.{Logged, Log}
-use Rattle.log_laws.specs.Merge.{NodeTurn, IsBefore, IsMerge, log_of, event_at, event_of, events_of}
-use Rattle.log_laws.specs.Merged.{item_of, IsItem, logs_from, logs_of}
+use Rattle.log_laws.specs.Logs.{Logged, Log, items_in}
+use Rattle.log_laws.specs.Merge.{logs_from, logs_of, NodeTurn, turn_item, event_at, event_of, events_of}
 use Rattle.log_laws.specs.EventLogs.{event_item_of, event_log, event_logs_from, event_logs_of, EventLogsMayMerge, event_item, HasTurns, EventsMergeAsTurns}
-use Rattle.log_laws.proofs.Lists.{log-of-own, log-of-other}
-use Rattle.log_laws.proofs.Merged.{all-moved}
-use Rattle.log_laws.proofs.MayMerge.{are-logs, logs_may_merge_lemma}
+use Rattle.log_laws.proofs.Lists.{all-moved, log_of, log-of-own, log-of-other}
+use Rattle.log_laws.proofs.MayMerge.{log-part, all-of-logs, logs_may_merge_lemma}
+use Rattle.log_laws.proofs.ByNode.{IsMergeByNode, from-nodes}
 
 -- ---- an item with its turn's event in place of its turn
 
 abbrev as_event : Stamped Logged → Stamped Event
 as_event e = record { stamp = e.stamp; node = e.node; item = event_at e.node e.item.input }
 
-as-events : (p : ℕ) (log : Log) → event_log p log ≡ map as_event (map (item_of p) log)
+as-events : (p : ℕ) (log : Log) → event_log p log ≡ map as_event (items_in p log)
 as-events p [] = refl
 as-events p (turn ∷ log) = ap (λ (es : List (Stamped Event)). event_item_of p turn ∷ es) (as-events p log)
 
@@ -31,7 +30,7 @@ all-as-events : (node count : ℕ) (logs : ℕ → Log)
 all-as-events node zero logs = refl
 all-as-events node (suc count) logs =
     ap (λ (es : List (Stamped Event)). es ∷ event_logs_from (suc node) count logs) (as-events node (logs node))
-    ∙ ap (λ (ess : List (List (Stamped Event))). map as_event (map (item_of node) (logs node)) ∷ ess)
+    ∙ ap (λ (ess : List (List (Stamped Event))). map as_event (items_in node (logs node)) ∷ ess)
     (all-as-events (suc node) count logs)
 
 -- ---- what it keeps
@@ -102,10 +101,11 @@ keeps-all_items (es ∷ logs) =
     ap (λ (fs : List (Stamped Event)). map as_event es ++ fs) (keeps-all_items logs)
     ∙ sym (map-append as_event es (stamps.all_items logs))
 
-keeps-nodes : (script : Script) (es : List (Stamped Logged)) → AllByRecursion (IsItem script) es
+keeps-nodes : (script : Script) (es : List (Stamped Logged))
+    → AllByRecursion (λ (e : Stamped Logged). IsNode script e.node) es
     → AllByRecursion (λ (e : Stamped Event). IsNode script e.node) (map as_event es)
 keeps-nodes script [] h = tt
-keeps-nodes script (e ∷ es) h = (h.0.node, keeps-nodes script es h.1)
+keeps-nodes script (e ∷ es) h = (h.0, keeps-nodes script es h.1)
 
 -- the logs of events may be merged
 pub event_logs_may_merge_lemma : EventLogsMayMerge
@@ -129,14 +129,15 @@ event-part : (script : Script) (logs : ℕ → Log) (p : ℕ) → IsNode script 
 event-part script logs p is =
     ap (stamps.items_of p) (all-items-of script logs)
     ∙ keeps-items p (stamps.all_items (logs_of script logs))
-    ∙ ap (map as_event) ((are-logs script logs).each p is)
+    ∙ ap (map as_event) (log-part script logs p is)
     ∙ sym (as-events p (logs p))
 
 event-nodes : (script : Script) (logs : ℕ → Log)
     → AllByRecursion (λ (e : Stamped Event). IsNode script e.node) (stamps.all_items (event_logs_of script logs))
 event-nodes script logs =
     subst (AllByRecursion (λ (e : Stamped Event). IsNode script e.node)) (sym (all-items-of script logs))
-    (keeps-nodes script (stamps.all_items (logs_of script logs)) (are-logs script logs).others)
+    (keeps-nodes script (stamps.all_items (logs_of script logs))
+    (all-of-logs (λ (e : Stamped Logged). IsNode script e.node) script logs (λ p is turn. is)))
 
 -- ---- the turns of merged events
 
@@ -171,13 +172,20 @@ behind-other : (node : ℕ) (rest : Log) (logs : ℕ → Log) (p : ℕ) → node
 behind-other node rest logs p d = ap (λ b. if b then rest else logs p) (ne_eqb node p d)
 
 before-turns : (t : NodeTurn) (turns : List NodeTurn)
-    → AllByRecursion (stamps.IsBefore (event_item t)) (map event_item turns) → AllByRecursion (IsBefore t) turns
+    → AllByRecursion (stamps.IsBefore (event_item t)) (map event_item turns)
+    → AllByRecursion (stamps.IsBefore (turn_item t)) (map turn_item turns)
 before-turns t [] h = tt
 before-turns t (u ∷ turns) h = (h.0, before-turns t turns h.1)
 
 items-of-turns : (turns : List NodeTurn) → map (λ (e : Stamped Event). e.item) (map event_item turns) ≡ events_of turns
 items-of-turns [] = refl
 items-of-turns (t ∷ turns) = ap (λ (es : List Event). event_of t ∷ es) (items-of-turns turns)
+
+-- the merged events are those of turns, which are a merge node by node
+record AreTurns (script : Script) (logs : ℕ → Log) (merged : List (Stamped Event)) : Type 0 where
+  turns : List NodeTurn
+  merge : IsMergeByNode script logs turns
+  items : merged ≡ map event_item turns
 
 -- each node's events are those of its log
 abbrev ArePartsOf : Script → (ℕ → Log) → List (Stamped Event) → Type 0
@@ -222,8 +230,8 @@ module _ (script : Script) (logs : ℕ → Log) (e : Stamped Event) (merged : Li
         | inr d ↦ log-of-other first_turn turns p d ∙ h ∙ behind-other e.node begins.rest logs p d
       ]
 
-  with-first : (turns : List NodeTurn) → IsMerge script rest_logs turns → merged ≡ map event_item turns
-      → AllByRecursion (stamps.IsBefore e) merged → HasTurns script logs (e ∷ merged)
+  with-first : (turns : List NodeTurn) → IsMergeByNode script rest_logs turns → merged ≡ map event_item turns
+      → AllByRecursion (stamps.IsBefore e) merged → AreTurns script logs (e ∷ merged)
   with-first turns merge items before =
       let same : e ∷ merged ≡ event_item first_turn ∷ map event_item turns =
       ap (λ (f : Stamped Event). f ∷ merged) (sym begins.first)
@@ -241,21 +249,19 @@ module _ (script : Script) (logs : ℕ → Log) (e : Stamped Event) (merged : Li
           nodes = (here, merge.nodes);
         };
         items = same;
-        events = ap (map (λ (f : Stamped Event). f.item)) same ∙ items-of-turns (first_turn ∷ turns);
       }
 
 turns-of-parts : (script : Script) (merged : List (Stamped Event)) (logs : ℕ → Log) → ArePartsOf script logs merged
     → AllByRecursion (λ (e : Stamped Event). IsNode script e.node) merged → stamps.AreInOrder merged
-    → HasTurns script logs merged
+    → AreTurns script logs merged
 turns-of-parts script [] logs parts nodes order =
     record {
       turns = [];
       merge = record { in_order = tt; each = λ p is. no-turns p (logs p) (parts p is); nodes = tt };
       items = refl;
-      events = refl;
     }
 turns-of-parts script (e ∷ merged) logs parts nodes order =
-    let rest : HasTurns script (rest_logs script logs e merged parts nodes.0) merged =
+    let rest : AreTurns script (rest_logs script logs e merged parts nodes.0) merged =
     turns-of-parts script merged (rest_logs script logs e merged parts nodes.0)
     (rest-parts script logs e merged parts nodes.0) nodes.1 order.1
     in with-first script logs e merged parts nodes.0 rest.turns rest.merge rest.items order.0
@@ -263,7 +269,14 @@ turns-of-parts script (e ∷ merged) logs parts nodes order =
 -- merged events are those of turns
 pub events_merge_as_turns_lemma : EventsMergeAsTurns
 events_merge_as_turns_lemma script logs merged merge =
+    let are : AreTurns script logs merged =
     turns-of-parts script merged logs (λ p is. merge.parts p ∙ event-part script logs p is)
     (all-moved (λ (e : Stamped Event). IsNode script e.node) (stamps.all_items (event_logs_of script logs)) merged
     merge.all (event-nodes script logs))
     merge.in_order
+    in record {
+      turns = are.turns;
+      merge = from-nodes script logs are.turns are.merge;
+      items = are.items;
+      events = ap (map (λ (e : Stamped Event). e.item)) are.items ∙ items-of-turns are.turns;
+    }

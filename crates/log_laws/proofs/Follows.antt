@@ -16,6 +16,7 @@ use Rattle.log_laws.specs.EventLogs.{event_item}
 use Rattle.log_laws.specs.Follows.{IsRunOfLogs, LogsLeadThere, logs_after, AreBelow, EventsFollow}
 use Rattle.log_laws.proofs.Lists.{map-append, append-all}
 use Rattle.log_laws.proofs.Halfway.{nodes_after, on_way_after}
+use Rattle.log_laws.proofs.ByNode.{from-nodes}
 use Rattle.log_laws.proofs.Whole.{consistent_logs_are_runs_lemma}
 use Rattle.log_laws.proofs.RunEnds.{one-end, runs-further}
 use Rattle.log_laws.proofs.OneMore.{GoesOn, merge-with-last, consistent-with-last}
@@ -43,7 +44,7 @@ pub opening-logs : (script : Script) → IsRunOfLogs script (λ p. []) [] (openi
 opening-logs script =
     logs_lead_there_lemma script (λ p. []) opening_node (λ p q. []) [] (opening_world script)
     (record { rise = λ p is. tt; leads = λ p is. refl; streams = λ p q is_p is_q. refl; between = λ p is. tt })
-    (record { in_order = tt; each = λ p is. refl; nodes = tt })
+    (from-nodes script (λ p. []) [] (record { in_order = tt; each = λ p is. refl; nodes = tt }))
     refl
 
 -- with one turn more the logs lead to the next world

@@ -10,8 +10,9 @@ use Rattle.world_model.specs.World.{IsNode, World, node_at, stream, node_count, 
 use Rattle.world_laws.proofs.Streams.{Square}
 use Rattle.world_laws.proofs.Sends.{AreToNodes, square-sent, all-sent, none-sent}
 use Rattle.log_laws.specs.Logs.{StampedFrame, frame_of, Logged, Log, LeadsTo, Makes, sent_to, sends_of, sent_in, taken_in, GoesBetween}
-use Rattle.log_laws.specs.Merge.{NodeTurn, AreInOrder, log_of}
-use Rattle.log_laws.proofs.Lists.{get-set-same, get-set-other, map-append, frames-of-sends, log-of-own, log-of-other}
+use Rattle.stamp_merge.specs.Merge.{AreInOrder}
+use Rattle.log_laws.specs.Merge.{NodeTurn, turn_item}
+use Rattle.log_laws.proofs.Lists.{get-set-same, get-set-other, map-append, frames-of-sends, log_of, log-of-own, log-of-other}
 
 -- each node as it stands
 abbrev pub Nodes : Type 0
@@ -37,7 +38,7 @@ pub record IsHalfway (script : Script) (ends : Ends) (w : World) (now : Nodes) (
   pub stream_is : (p q : ℕ) → IsNode script p → IsNode script q → stream w p q ≡ map frame_of (on_way p q)
   pub balance : (p q : ℕ) → IsNode script p → IsNode script q
       → taken_in q (log_of p turns) ++ ends.untaken p q ≡ on_way p q ++ sent_in p (log_of q turns)
-  pub in_order : AreInOrder turns
+  pub in_order : AreInOrder (map turn_item turns)
   pub nodes : AllByRecursion (λ t. IsNode script t.node) turns
   pub between : AllByRecursion (λ t. GoesBetween script t.turn) turns
 
@@ -75,7 +76,7 @@ pub record IsTaken (script : Script) (ends : Ends) (v : World) (now : Nodes) (on
   pub stream_is : (p q : ℕ) → IsNode script p → IsNode script q → stream v p q ≡ map frame_of (on_way p q)
   pub balance : (p q : ℕ) → IsNode script p → IsNode script q
       → taken_in q (log_of p turns) ++ ends.untaken p q ≡ on_way p q ++ sent_in p (log_of q (t ∷ turns))
-  pub in_order : AreInOrder turns
+  pub in_order : AreInOrder (map turn_item turns)
   pub nodes : AllByRecursion (λ u. IsNode script u.node) turns
   pub between : AllByRecursion (λ u. GoesBetween script u.turn) turns
 

@@ -6,10 +6,12 @@ use Rattle.pico_base.specs.declared.script.Script.{Script}
 use Rattle.pico_base.specs.declared.reply.Entry.{Entry}
 use Rattle.world_model.specs.World.{IsNode}
 use Rattle.log_laws.specs.Logs.{Logged, Log}
-use Rattle.log_laws.specs.Merge.{NodeTurn, IsBefore, AreInOrder, log_of, entries_of}
+use Rattle.stamp_merge.specs.Merge.{IsBefore, AreInOrder}
+use Rattle.log_laws.specs.Merge.{NodeTurn, turn_item, entries_of}
 use Rattle.log_laws.specs.Journal.{JournalEntry, journal_entry, entered, entry_if, entries_by, StampsDontFall, OneNodeAStamp, IsJournalOf, plain_entries}
 use Rattle.log_laws.specs.Laws.{OneJournal}
-use Rattle.log_laws.proofs.Lists.{map-append, append-all, log-of-own, log-of-other, not-below}
+use Rattle.log_laws.proofs.Lists.{map-append, append-all, log_of, log-of-own, log-of-other, not-below}
+use Rattle.log_laws.proofs.ByNode.{IsMergeByNode, by-node}
 
 -- ---- one node's entries
 
@@ -150,14 +152,14 @@ high-entries : (low node stamp : ℕ) (es : List Entry) → low ≤ stamp
 high-entries low node stamp [] h = tt
 high-entries low node stamp (e ∷ es) h = (h, high-entries low node stamp es h)
 
-all-above : (t : NodeTurn) (turns : List NodeTurn) → AllByRecursion (IsBefore t) turns
+all-above : (t : NodeTurn) (turns : List NodeTurn) → AllByRecursion (IsBefore (turn_item t)) (map turn_item turns)
     → AllByRecursion (λ (e : JournalEntry). t.turn.stamp ≤ e.stamp) (all_entered turns)
 all-above t [] h = tt
 all-above t (u ∷ turns) h =
     append-all (λ (e : JournalEntry). t.turn.stamp ≤ e.stamp) (entered u.node u.turn) (all_entered turns)
     (high-entries t.turn.stamp u.node u.turn.stamp u.turn.step.entries (not-below t u h.0)) (all-above t turns h.1)
 
-all-dont_fall : (turns : List NodeTurn) → AreInOrder turns → StampsDontFall (all_entered turns)
+all-dont_fall : (turns : List NodeTurn) → AreInOrder (map turn_item turns) → StampsDontFall (all_entered turns)
 all-dont_fall [] h = tt
 all-dont_fall (t ∷ turns) h =
     dont-fall-append t.turn.stamp (entered t.node t.turn) (all_entered turns)
@@ -256,8 +258,9 @@ plain-all (t ∷ turns) =
 -- a journal of the logs has the entries of their merge in its order
 pub one_journal_lemma : OneJournal
 one_journal_lemma script logs turns journal merge is =
-    let same : journal ≡ all_entered turns =
-    one-order script journal (all_entered turns) is.nodes (all-nodes script turns merge.nodes) is.order is.apart
-    (all-dont_fall turns merge.in_order)
-    (λ p at. is.each p at ∙ ap (entered_in p) (sym (merge.each p at)) ∙ sym (by-logs p turns))
+    let nodes : IsMergeByNode script logs turns = by-node script logs turns merge
+    in let same : journal ≡ all_entered turns =
+    one-order script journal (all_entered turns) is.nodes (all-nodes script turns nodes.nodes) is.order is.apart
+    (all-dont_fall turns nodes.in_order)
+    (λ p at. is.each p at ∙ ap (entered_in p) (sym (nodes.each p at)) ∙ sym (by-logs p turns))
     in ap plain_entries same ∙ plain-all turns

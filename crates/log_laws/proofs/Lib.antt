@@ -1,10 +1,11 @@
 pub mod Lists
+pub mod MayMerge
+pub mod ByNode
 pub mod Halfway
 pub mod Turns
 pub mod Whole
 pub mod Journals
 pub mod Merged
-pub mod MayMerge
 pub mod EventLogs
 pub mod Drawn
 pub mod RunEnds

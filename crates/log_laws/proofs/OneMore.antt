@@ -1,15 +1,18 @@
 -- Consistent logs, and one turn more behind its node's: they are consistent again.
-use Rattle.std.proofs.Common.{◌≡◌, ◌≢◌, ℕ, ◌<◌, Bool, List, [], ◌∷◌, ◌++◌, nat_eq, if◌then◌else◌, Some, refl, ap, sym, subst, ◌∙◌, inl, inr, append_assoc, append-nil}
+use Rattle.std.proofs.Common.{◌≡◌, ◌≢◌, ℕ, ◌<◌, Bool, List, [], ◌∷◌, ◌++◌, map, nat_eq, if◌then◌else◌, Some, refl, ap, sym, subst, ◌∙◌, inl, inr, append_assoc, append-nil}
 use Rattle.std.specs.List.{AllByRecursion}
 use Rattle.std.proofs.lemmas.Bool.{cases_eq, eq-eqb, ne_eqb}
 use Rattle.std.proofs.lemmas.Grind.{flat_map-append}
 use Rattle.pico_base.specs.declared.script.Script.{Script}
+use Rattle.stamp_merge.specs.declared.Stamped.{Stamped}
+use Rattle.stamp_merge.specs.Merge.{StampsRise, IsBefore, AreInOrder}
 use Rattle.world_model.specs.Node.{Node, opening_node}
 use Rattle.world_model.specs.World.{IsNode}
-use Rattle.log_laws.specs.Logs.{StampedFrame, Logged, Log, turn_on, LeadsTo, sends_of, sent_in, takes_of, taken_in, StampsRise, GoesBetween, AreConsistent}
-use Rattle.log_laws.specs.Merge.{NodeTurn, IsBefore, AreInOrder, turn_if, log_of, IsMerge}
+use Rattle.log_laws.specs.Logs.{StampedFrame, Logged, Log, turn_on, LeadsTo, sends_of, sent_in, takes_of, taken_in, items_in, GoesBetween, AreConsistent}
+use Rattle.log_laws.specs.Merge.{NodeTurn, turn_item, IsMerge}
 use Rattle.log_laws.specs.Follows.{logs_after, AreBelow}
-use Rattle.log_laws.proofs.Lists.{append-all, log-of-own, log-of-other, all-of-log}
+use Rattle.log_laws.proofs.Lists.{append-all, turn_if, log_of, log-of-own, log-of-other, all-of-log}
+use Rattle.log_laws.proofs.ByNode.{IsMergeByNode, by-node, from-nodes}
 use Rattle.log_laws.proofs.Halfway.{Nodes, OnWay, nodes_after, sends_if, on_way_after}
 
 -- ---- the logs with the turn
@@ -36,40 +39,52 @@ log-with-last logs turns t p h =
           ap (λ (l : Log). logs p ++ l) (log-of-other t [] p d) ∙ append-nil (logs p) ∙ sym (after-other logs t p d)
     ]
 
-order-with-last : (turns : List NodeTurn) (t : NodeTurn) → AreInOrder turns → AreBelow t.turn.stamp turns
-    → AreInOrder (turns ++ t ∷ [])
+before-last : (u t : NodeTurn) (turns : List NodeTurn) → u.turn.stamp < t.turn.stamp
+    → AllByRecursion (IsBefore (turn_item u)) (map turn_item turns)
+    → AllByRecursion (IsBefore (turn_item u)) (map turn_item (turns ++ t ∷ []))
+before-last u t [] low before = (inl low, tt)
+before-last u t (v ∷ turns) low before = (before.0, before-last u t turns low before.1)
+
+order-with-last : (turns : List NodeTurn) (t : NodeTurn) → AreInOrder (map turn_item turns)
+    → AreBelow t.turn.stamp turns → AreInOrder (map turn_item (turns ++ t ∷ []))
 order-with-last [] t order below = (tt, tt)
 order-with-last (u ∷ turns) t order below =
-    (append-all (IsBefore u) turns (t ∷ []) order.0 (inl below.0, tt), order-with-last turns t order.1 below.1)
+    (before-last u t turns below.0 order.0, order-with-last turns t order.1 below.1)
 
 -- a turn under a stamp above all others is the last one of the merge
 pub merge-with-last : (script : Script) (logs : ℕ → Log) (turns : List NodeTurn) (t : NodeTurn)
     → IsMerge script logs turns → IsNode script t.node → AreBelow t.turn.stamp turns
     → IsMerge script (logs_after logs t) (turns ++ t ∷ [])
 merge-with-last script logs turns t merge here below =
-    record {
-      in_order = order-with-last turns t merge.in_order below;
-      each = λ p is. log-with-last logs turns t p (merge.each p is);
-      nodes = append-all (λ (u : NodeTurn). IsNode script u.node) turns (t ∷ []) merge.nodes (here, tt);
-    }
+    let nodes : IsMergeByNode script logs turns = by-node script logs turns merge
+    in from-nodes script (logs_after logs t) (turns ++ t ∷ [])
+    (record {
+      in_order = order-with-last turns t nodes.in_order below;
+      each = λ p is. log-with-last logs turns t p (nodes.each p is);
+      nodes = append-all (λ (u : NodeTurn). IsNode script u.node) turns (t ∷ []) nodes.nodes (here, tt);
+    })
 
 -- what is below in the merge is below in each log
 pub below-in-log : (script : Script) (logs : ℕ → Log) (turns : List NodeTurn) (stamp : ℕ) → IsMerge script logs turns
     → AreBelow stamp turns → (p : ℕ) → IsNode script p → AllByRecursion (λ (l : Logged). l.stamp < stamp) (logs p)
 below-in-log script logs turns stamp merge below p is =
-    subst (AllByRecursion (λ (l : Logged). l.stamp < stamp)) (merge.each p is)
+    subst (AllByRecursion (λ (l : Logged). l.stamp < stamp)) ((by-node script logs turns merge).each p is)
     (all-of-log (λ (l : Logged). l.stamp < stamp) p turns below)
 
 -- ---- the node's log with the turn
 
+above-with-last : (stamp p : ℕ) (log : Log) (turn : Logged) → stamp < turn.stamp
+    → AllByRecursion (λ (e : Stamped Logged). stamp < e.stamp) (items_in p log)
+    → AllByRecursion (λ (e : Stamped Logged). stamp < e.stamp) (items_in p (log ++ turn ∷ []))
+above-with-last stamp p [] turn low above = (low, tt)
+above-with-last stamp p (l ∷ log) turn low above = (above.0, above-with-last stamp p log turn low above.1)
+
 -- under a stamp above all others it rises
-pub rises-with-last : (log : Log) (turn : Logged) → StampsRise log
-    → AllByRecursion (λ (l : Logged). l.stamp < turn.stamp) log → StampsRise (log ++ turn ∷ [])
-rises-with-last [] turn rise below = (tt, tt)
-rises-with-last (l ∷ log) turn rise below = (
-  append-all (λ (later : Logged). l.stamp < later.stamp) log (turn ∷ []) rise.0 (below.0, tt),
-  rises-with-last log turn rise.1 below.1,
-)
+pub rises-with-last : (p : ℕ) (log : Log) (turn : Logged) → StampsRise (items_in p log)
+    → AllByRecursion (λ (l : Logged). l.stamp < turn.stamp) log → StampsRise (items_in p (log ++ turn ∷ []))
+rises-with-last p [] turn rise below = (tt, tt)
+rises-with-last p (l ∷ log) turn rise below =
+    (above-with-last l.stamp p log turn below.0 rise.0, rises-with-last p log turn rise.1 below.1)
 
 -- and it leads to the node that the turn leaves
 pub leads-with-last : (script : Script) (log : Log) (n last : Node) (turn : Logged) → LeadsTo script n log last
@@ -130,14 +145,14 @@ pub record GoesOn (script : Script) (last : Nodes) (untaken : OnWay) (turns : Li
 module _ (script : Script) (logs : ℕ → Log) (last : Nodes) (untaken : OnWay) (turns : List NodeTurn) (t : NodeTurn)
     (consistent : AreConsistent script logs last untaken) (merge : IsMerge script logs turns)
     (on : GoesOn script last untaken turns t) where
-  rises : (p : ℕ) → IsNode script p → StampsRise (logs_after logs t p)
+  rises : (p : ℕ) → IsNode script p → StampsRise (items_in p (logs_after logs t p))
   rises p is =
       elim (cases_eq t.node p) [
         | inl e ↦
-            subst StampsRise (sym (after-own logs t p e))
-            (rises-with-last (logs p) t.turn (consistent.rise p is)
+            subst (λ (l : Log). StampsRise (items_in p l)) (sym (after-own logs t p e))
+            (rises-with-last p (logs p) t.turn (consistent.rise p is)
             (below-in-log script logs turns t.turn.stamp merge on.below p is))
-        | inr d ↦ subst StampsRise (sym (after-other logs t p d)) (consistent.rise p is)
+        | inr d ↦ subst (λ (l : Log). StampsRise (items_in p l)) (sym (after-other logs t p d)) (consistent.rise p is)
       ]
 
   leads-own : LeadsTo script (opening_node t.node) (logs t.node ++ t.turn ∷ []) t.turn.step.node

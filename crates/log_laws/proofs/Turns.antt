@@ -11,8 +11,8 @@ use Rattle.world_model.specs.Turn.{take_frame}
 use Rattle.world_model.specs.World.{IsNode, World, node_at, stream, with_stream, node_count, world_after, after_turn, runs_at, takes_at, step, is_enabled, is_run_enabled, is_take_enabled, is_number, is_checkpoint}
 use Rattle.world_laws.proofs.Streams.{square-with, stream-same, stream-other}
 use Rattle.log_laws.specs.Logs.{StampedFrame, frame_of, Input, Runs, Takes, Logged, Log, LeadsTo, Makes, turn_on, takes_of, taken_in, taken_if, sent_in, IsTakenLater, GoesBetween}
-use Rattle.log_laws.specs.Merge.{NodeTurn, IsBefore, log_of, event_at, event_of}
-use Rattle.log_laws.proofs.Lists.{log-of-own, log-of-other, all-of-log, not-below, stamps-of-sent}
+use Rattle.log_laws.specs.Merge.{NodeTurn, event_at, event_of}
+use Rattle.log_laws.proofs.Lists.{log_of, log-of-own, log-of-other, all-of-log, none-below, stamps-of-sent}
 use Rattle.log_laws.proofs.Halfway.{Nodes, OnWay, Ends, IsHalfway, IsTaken, nodes_after, on_way_after, halfway-after}
 
 -- the turn is an enabled event with a step, and the rest of the merge is left
@@ -100,18 +100,13 @@ module _ (script : Script) (ends : Ends) (w : World) (now : Nodes) (on_way : OnW
 
   -- ---- a turn that takes a frame
 
-  none-below : (us : List NodeTurn) → AllByRecursion (IsBefore t) us
-      → AllByRecursion (λ (u : NodeTurn). t.turn.stamp ≤ u.turn.stamp) us
-  none-below [] h = tt
-  none-below (u ∷ us) h = (not-below t u h.0, none-below us h.1)
-
   -- what is still to be sent has high stamps
   still-high : (p q : ℕ)
       → AllByRecursion (λ (f : StampedFrame). t.turn.stamp ≤ f.stamp) (sent_in p (log_of q (t ∷ turns)))
   still-high p q =
       let same : t.turn.stamp ≤ t.turn.stamp = omega arith
       in stamps-of-sent (λ stamp. t.turn.stamp ≤ stamp) p (log_of q (t ∷ turns))
-      (all-of-log (λ (l : Logged). t.turn.stamp ≤ l.stamp) q (t ∷ turns) (same, none-below turns half.in_order.0))
+      (all-of-log (λ (l : Logged). t.turn.stamp ≤ l.stamp) q (t ∷ turns) (same, none-below t turns half.in_order.0))
 
   first-high : (f : StampedFrame) (fs sent : List StampedFrame) → f ∷ fs ≡ sent
       → AllByRecursion (λ (g : StampedFrame). t.turn.stamp ≤ g.stamp) sent → t.turn.stamp ≤ f.stamp

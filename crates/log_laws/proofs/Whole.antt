@@ -11,9 +11,10 @@ use Rattle.world_model.specs.World.{IsNode, World, node_at, stream, node_count, 
 use Rattle.world_model.specs.Run.{Runs}
 use Rattle.world_laws.proofs.Streams.{Square}
 use Rattle.log_laws.specs.Logs.{StampedFrame, frame_of, Logged, Log, GoesBetween, LeadsTo, sent_in, taken_in, AreConsistent}
-use Rattle.log_laws.specs.Merge.{NodeTurn, IsMerge, log_of, events_of, entries_of}
+use Rattle.log_laws.specs.Merge.{NodeTurn, events_of, entries_of}
 use Rattle.log_laws.specs.Laws.{ConsistentLogsAreRuns}
-use Rattle.log_laws.proofs.Lists.{log-of-own, log-of-other}
+use Rattle.log_laws.proofs.Lists.{log_of, log-of-own, log-of-other}
+use Rattle.log_laws.proofs.ByNode.{IsMergeByNode, by-node}
 use Rattle.log_laws.proofs.Halfway.{Nodes, OnWay, Ends, IsHalfway}
 use Rattle.log_laws.proofs.Turns.{Advances, advances}
 
@@ -118,7 +119,7 @@ opening-square script =
     }
 
 opening-halfway : (script : Script) (logs : ℕ → Log) (last : ℕ → Node) (untaken : ℕ → ℕ → List StampedFrame)
-    (turns : List NodeTurn) → AreConsistent script logs last untaken → IsMerge script logs turns
+    (turns : List NodeTurn) → AreConsistent script logs last untaken → IsMergeByNode script logs turns
     → IsHalfway script (record { last = last; untaken = untaken }) (opening_world script) opening_node (λ p q. []) turns
 opening-halfway script logs last untaken turns consistent merge =
     record {
@@ -146,5 +147,5 @@ consistent_logs_are_runs_lemma script logs last untaken turns consistent merge =
     let ends : Ends = record { last = last; untaken = untaken }
     in let a : Arrives script ends (opening_world script) turns =
     arrives script ends turns (opening_world script) opening_node (λ p q. [])
-    (opening-halfway script logs last untaken turns consistent merge)
+    (opening-halfway script logs last untaken turns consistent (by-node script logs turns merge))
     in record { world = a.world; runs = a.runs; node = a.node; stream_is = a.stream_is; journal = a.journal }

@@ -1,13 +1,12 @@
 -- The logs of events that nodes keep while they make their turns, and the turns of which a merge of these logs is made.
 use Rattle.std.specs.Prelude.{◌≡◌, ℕ, zero, suc, List, [], ◌∷◌, map}
-use Rattle.std.specs.List.{AllByRecursion}
 use Rattle.pico_base.specs.declared.script.Script.{Script}
 use Rattle.pico_base.specs.declared.script.Event.{Event}
 use Rattle.stamp_merge.specs.declared.Stamped.{Stamped}
 use Rattle.stamp_merge.specs.Merge as stamps
 use Rattle.world_model.specs.World.{IsNode, node_count}
-use Rattle.log_laws.specs.Logs.{Logged, Log, StampsRise}
-use Rattle.log_laws.specs.Merge.{NodeTurn, IsMerge, event_at, events_of}
+use Rattle.log_laws.specs.Logs.{Logged, Log, items_in}
+use Rattle.log_laws.specs.Merge.{MayMerge, NodeTurn, IsMerge, event_at, events_of}
 
 -- a turn's event as an item of its node's log
 abbrev pub event_item_of : ℕ → Logged → Stamped Event
@@ -27,14 +26,9 @@ event_logs_of script logs = event_logs_from 1 (node_count script) logs
 
 -- ---- they may be merged
 
--- what `stamp_merge` asks for: in each log the stamps rise, and each is of another node
-pub record EventsMayMerge (items : List (List (Stamped Event))) : Type 0 where
-  pub rise : AllByRecursion stamps.StampsRise items
-  pub own_nodes : stamps.HaveOwnNodes items
-
 abbrev pub EventLogsMayMerge : Type 0
-EventLogsMayMerge = (script : Script) (logs : ℕ → Log) → ((p : ℕ) → IsNode script p → StampsRise (logs p))
-    → EventsMayMerge (event_logs_of script logs)
+EventLogsMayMerge = (script : Script) (logs : ℕ → Log)
+    → ((p : ℕ) → IsNode script p → stamps.StampsRise (items_in p (logs p))) → MayMerge (event_logs_of script logs)
 
 -- ---- what comes of it
 

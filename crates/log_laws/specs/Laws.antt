@@ -4,9 +4,16 @@ use Rattle.pico_base.specs.declared.script.Script.{Script}
 use Rattle.world_model.specs.Node.{Node}
 use Rattle.world_model.specs.World.{IsNode, World, node_at, stream}
 use Rattle.world_model.specs.Run.{IsRunOf}
-use Rattle.log_laws.specs.Logs.{StampedFrame, frame_of, Log, AreConsistent}
-use Rattle.log_laws.specs.Merge.{NodeTurn, IsMerge, events_of, entries_of}
+use Rattle.stamp_merge.specs.declared.Stamped.{Stamped}
+use Rattle.stamp_merge.specs.Merge as stamps
+use Rattle.log_laws.specs.Logs.{StampedFrame, frame_of, Logged, Log, items_in, AreConsistent}
+use Rattle.log_laws.specs.Merge.{MayMerge, logs_of, NodeTurn, turn_of, IsMerge, events_of, entries_of}
 use Rattle.log_laws.specs.Journal.{JournalEntry, IsJournalOf, plain_entries}
+
+-- Logs may be merged where the stamps of each rise.
+abbrev pub LogsMayMerge : Type 0
+LogsMayMerge = (script : Script) (logs : ℕ → Log)
+    → ((p : ℕ) → IsNode script p → stamps.StampsRise (items_in p (logs p))) → MayMerge (logs_of script logs)
 
 -- The events are a run of the machine. Its nodes are those that the logs lead to, the frames on their way are those
 -- that no log took, and its journal is what the turns entered.
@@ -22,6 +29,13 @@ abbrev pub ConsistentLogsAreRuns : Type 0
 ConsistentLogsAreRuns =
     (script : Script) (logs : ℕ → Log) (last : ℕ → Node) (untaken : ℕ → ℕ → List StampedFrame) (turns : List NodeTurn)
     → AreConsistent script logs last untaken → IsMerge script logs turns → IsRunOfTurns script turns last untaken
+
+-- So `stamp_merge`'s merge of consistent logs is one, of the turns that its items are.
+abbrev pub MergedLogsAreRuns : Type 0
+MergedLogsAreRuns =
+    (script : Script) (logs : ℕ → Log) (last : ℕ → Node) (untaken : ℕ → ℕ → List StampedFrame)
+    (merged : List (Stamped Logged)) → AreConsistent script logs last untaken
+    → stamps.IsMerge (logs_of script logs) merged → IsRunOfTurns script (map turn_of merged) last untaken
 
 -- A journal of the logs has the entries of their merge in its order.
 abbrev pub OneJournal : Type 0

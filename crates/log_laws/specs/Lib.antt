@@ -2,7 +2,6 @@ pub mod Logs
 pub mod Merge
 pub mod Journal
 pub mod Laws
-pub mod Merged
 pub mod EventLogs
 pub mod Drawn
 pub mod Follows

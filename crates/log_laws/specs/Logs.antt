@@ -4,6 +4,8 @@ use Rattle.std.specs.Prelude.{◌≡◌, ℕ, ◌<◌, Bool, true, false, ◌||�
 use Rattle.std.specs.List.{flat_map, AllByRecursion}
 use Rattle.pico_base.specs.declared.script.Script.{Script}
 use Rattle.rpc_frame.specs.declared.frame.Frame.{Frame}
+use Rattle.stamp_merge.specs.declared.Stamped.{Stamped}
+use Rattle.stamp_merge.specs.Merge.{StampsRise}
 use Rattle.world_model.specs.Node.{Node, opening_node, is_born, can_run}
 use Rattle.world_model.specs.Step.{Step}
 use Rattle.world_model.specs.Starting.{run}
@@ -31,6 +33,14 @@ pub record Logged : Type 0 where
 
 abbrev pub Log : Type 0
 Log = List Logged
+
+-- a turn as an item of its node's log
+abbrev pub item_of : ℕ → Logged → Stamped Logged
+item_of node turn = record { stamp = turn.stamp; node = node; item = turn }
+
+-- the turns of a node, each with its stamp and the node
+abbrev pub items_in : ℕ → Log → List (Stamped Logged)
+items_in node log = map (item_of node) log
 
 -- the machine's turn, where the event is enabled
 abbrev pub turn_on : Script → Node → Input → Option Step
@@ -81,11 +91,6 @@ taken_in from log = flat_map (λ turn. takes_of from turn.input) log
 
 -- ---- consistent logs
 
--- each stamp is above those before it
-abbrev pub StampsRise : Log → Type 0
-StampsRise [] = Unit {0}
-StampsRise (turn ∷ log) = AllByRecursion (λ later. turn.stamp < later.stamp) log × StampsRise log
-
 -- what is taken comes from a node of the script, and was sent by an event with a lower stamp
 abbrev pub IsTakenLater : Script → ℕ → Input → Type 0
 IsTakenLater script stamp Runs = Unit {0}
@@ -101,7 +106,7 @@ pub record GoesBetween (script : Script) (turn : Logged) : Type 0 where
 -- on its way, to a node from another.
 pub record AreConsistent (script : Script) (logs : ℕ → Log) (last : ℕ → Node)
     (untaken : ℕ → ℕ → List StampedFrame) : Type 0 where
-  pub rise : (p : ℕ) → IsNode script p → StampsRise (logs p)
+  pub rise : (p : ℕ) → IsNode script p → StampsRise (items_in p (logs p))
   pub leads : (p : ℕ) → IsNode script p → LeadsTo script (opening_node p) (logs p) (last p)
   pub streams : (p q : ℕ) → IsNode script p → IsNode script q
       → taken_in q (logs p) ++ untaken p q ≡ sent_in p (logs q)

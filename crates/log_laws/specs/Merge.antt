@@ -1,38 +1,49 @@
--- The merge of logs: all their turns, by stamp, and by node where stamps are equal.
-use Rattle.std.specs.Prelude.{◌≡◌, ◌⊎◌, ℕ, ◌<◌, Bool, nat_eq, if◌then◌else◌, List, [], ◌∷◌, map}
+-- The merge of the logs of a script's nodes: all their turns, by stamp, and by node where stamps are equal.
+use Rattle.std.specs.Prelude.{ℕ, zero, suc, List, [], ◌∷◌, map}
 use Rattle.std.specs.List.{flat_map, AllByRecursion}
 use Rattle.pico_base.specs.declared.script.Script.{Script}
 use Rattle.pico_base.specs.declared.script.Event.{Event}
 use Rattle.pico_base.specs.declared.script.Event.TheVariants as events
 use Rattle.pico_base.specs.declared.reply.Entry.{Entry}
-use Rattle.world_model.specs.World.{IsNode}
-use Rattle.log_laws.specs.Logs.{Input, Runs, Takes, Logged, Log}
+use Rattle.stamp_merge.specs.declared.Stamped.{Stamped}
+use Rattle.stamp_merge.specs.Merge as stamps
+use Rattle.world_model.specs.World.{node_count}
+use Rattle.log_laws.specs.Logs.{Input, Runs, Takes, Logged, Log, item_of, items_in}
+
+-- what `stamp_merge` asks for: in each log the stamps rise, and each is of another node
+pub record MayMerge {T : Type 0} (logs : List (List (Stamped T))) : Type 0 where
+  pub rise : AllByRecursion stamps.StampsRise logs
+  pub own_nodes : stamps.HaveOwnNodes logs
+
+-- the logs of so many nodes from this one on, by rising node
+abbrev pub logs_from : ℕ → ℕ → (ℕ → Log) → List (List (Stamped Logged))
+logs_from node zero logs = []
+logs_from node (suc count) logs = items_in node (logs node) ∷ logs_from (suc node) count logs
+
+-- the logs of the script's nodes
+abbrev pub logs_of : Script → (ℕ → Log) → List (List (Stamped Logged))
+logs_of script logs = logs_from 1 (node_count script) logs
+
+-- ---- their turns
 
 -- a turn and the node that made it
 pub record NodeTurn : Type 0 where
   pub node : ℕ
   pub turn : Logged
 
--- a lower stamp, or the same at a lower node
-abbrev pub IsBefore : NodeTurn → NodeTurn → Type 0
-IsBefore a b = (a.turn.stamp < b.turn.stamp) ⊎ ((a.turn.stamp ≡ b.turn.stamp) × (a.node < b.node))
+-- as an item of its node's log
+abbrev pub turn_item : NodeTurn → Stamped Logged
+turn_item t = item_of t.node t.turn
 
-abbrev pub AreInOrder : List NodeTurn → Type 0
-AreInOrder [] = Unit {0}
-AreInOrder (first ∷ rest) = AllByRecursion (IsBefore first) rest × AreInOrder rest
+-- the turn that an item is
+abbrev pub turn_of : Stamped Logged → NodeTurn
+turn_of e = record { node = e.node; turn = e.item }
 
-abbrev pub turn_if : Bool → Logged → Log
-turn_if b turn = if b then turn ∷ [] else []
+-- the turns of the nodes' logs, as `stamp_merge` merges them
+abbrev pub IsMerge : Script → (ℕ → Log) → List NodeTurn → Type 0
+IsMerge script logs turns = stamps.IsMerge (logs_of script logs) (map turn_item turns)
 
--- one node's turns
-abbrev pub log_of : ℕ → List NodeTurn → Log
-log_of p turns = flat_map (λ t. turn_if (nat_eq t.node p) t.turn) turns
-
--- all turns of the nodes' logs and no others, in order
-pub record IsMerge (script : Script) (logs : ℕ → Log) (turns : List NodeTurn) : Type 0 where
-  pub in_order : AreInOrder turns
-  pub each : (p : ℕ) → IsNode script p → log_of p turns ≡ logs p
-  pub nodes : AllByRecursion (λ t. IsNode script t.node) turns
+-- ---- what comes of them
 
 -- the machine's event of a turn
 abbrev pub event_at : ℕ → Input → Event

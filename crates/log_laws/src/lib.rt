@@ -5,8 +5,12 @@
 ghost use Rattle.log_laws.specs.Drawn.{StampsAreFew};
 ghost use Rattle.log_laws.specs.EventLogs.{EventLogsMayMerge, EventsMergeAsTurns};
 ghost use Rattle.log_laws.specs.Follows.{EventsFollow, JournalsFollow, LogsLeadThere};
-ghost use Rattle.log_laws.specs.Laws.{ConsistentLogsAreRuns, OneJournal};
-ghost use Rattle.log_laws.specs.Merged.{MergesAreMerges, LogsMayMerge, MergedLogsAreRuns};
+ghost use Rattle.log_laws.specs.Laws.{LogsMayMerge, ConsistentLogsAreRuns, MergedLogsAreRuns, OneJournal};
+
+/// The logs of a script's nodes are what `stamp_merge` asks for where the stamps of each rise.
+pub fn logs_may_merge()
+    ensures { LogsMayMerge }
+{}
 
 /// Where each node's log is the machine's, its stamps rise, and each frame was taken in the order of sending and later
 /// than it was sent, the turns of all logs by stamp and node are one run of the machine from the opening world: each
@@ -15,26 +19,15 @@ pub fn consistent_logs_are_runs()
     ensures { ConsistentLogsAreRuns }
 {}
 
+/// So `stamp_merge`'s merge of the logs of a script's nodes is one run of the machine, where the logs are consistent.
+pub fn merged_logs_are_runs()
+    ensures { MergedLogsAreRuns }
+{}
+
 /// Where the nodes share a journal in which stamps don't fall and events of different nodes have different stamps, its
 /// entries are those of that run, in its order.
 pub fn one_journal()
     ensures { OneJournal }
-{}
-
-/// What `stamp_merge` gives of the nodes' logs is the merge of which these laws speak: its items' turns, in its order,
-/// are one run of the machine.
-pub fn merges_are_merges()
-    ensures { MergesAreMerges }
-{}
-
-/// The logs of a script's nodes are what `stamp_merge` asks for where the stamps of each rise.
-pub fn logs_may_merge()
-    ensures { LogsMayMerge }
-{}
-
-/// So `stamp_merge`'s merge of the logs of a script's nodes is one run of the machine, where the logs are consistent.
-pub fn merged_logs_are_runs()
-    ensures { MergedLogsAreRuns }
 {}
 
 /// The logs of events that a script's nodes keep are what `stamp_merge` asks for where the stamps of each rise.

@@ -12,7 +12,8 @@ use Rattle.journal_core.specs.declared.stamped.Stamped.{Stamped}
 use Rattle.journal_core.specs.Journal.{under}
 use Rattle.world_model.specs.Node.{Node, opening_node, can_run}
 use Rattle.world_model.specs.World.{numbers, node_count}
-use Rattle.log_laws.specs.Logs.{StampedFrame, Input, Runs, Takes, Logged, Log, LeadsTo, StampsRise, GoesBetween, sent_in, taken_in}
+use Rattle.stamp_merge.specs.Merge.{StampsRise}
+use Rattle.log_laws.specs.Logs.{StampedFrame, Input, Runs, Takes, Logged, Log, items_in, LeadsTo, GoesBetween, sent_in, taken_in}
 use Rattle.log_laws.specs.EventLogs.{event_log}
 use Rattle.piece_laws.specs.Pieces.{pieces_of, Took}
 use Rattle.log_model.specs.declared.answer.LogFault.{LogFault}
@@ -152,7 +153,7 @@ pub record IsLogged (script : Script) (l : LoggedNode) : Type 0 where
   pub turns : Log
   pub last : Node
   pub leads : LeadsTo script (opening_node l.number) turns last
-  pub rise : StampsRise turns
+  pub rise : StampsRise (items_in l.number turns)
   pub clock : AllByRecursion (λ turn. turn.stamp ≤ l.clock) turns
   pub clock_is : (l.clock ≡ 0) ⊎ ((turn : Logged) × Contains turns turn × (turn.stamp ≡ l.clock))
   pub log : l.log ≡ event_log l.number turns

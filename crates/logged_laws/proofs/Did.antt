@@ -149,7 +149,9 @@ module _ (script : Script) (old new : LoggedNode) (was : IsLogged script old) (f
         turns = turns;
         last = does.step.node;
         leads = leads-with-last script was.turns (opening_node old.number) was.last turn was.leads rule.turns;
-        rise = rises-with-last was.turns turn was.rise (all-below old.clock does.stamp was.turns above-clock was.clock);
+        rise =
+            rises-with-last old.number was.turns turn was.rise
+            (all-below old.clock does.stamp was.turns above-clock was.clock);
         clock = all-up-to old.clock was.turns turn above-clock was.clock;
         clock_is = inr (turn, Contains-push was.turns turn, refl);
         log =

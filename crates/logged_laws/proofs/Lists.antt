@@ -3,7 +3,7 @@ use Rattle.std.proofs.Common.{◌≢◌, ℕ, Bool, List, [], ◌∷◌, refl, a
 use Rattle.std.specs.List.{AllByRecursion, Contains, filter}
 use Rattle.std.proofs.lemmas.Bool.{cond_both}
 use Rattle.std.proofs.lemmas.List.Elements.{All-contains, All-contains_itself, Contains-append_right}
-use Rattle.log_laws.proofs.Merged.{to-all, from-all}
+use Rattle.log_laws.proofs.Lists.{to-all, from-all}
 
 -- ---- what a list contains
 

@@ -11,9 +11,10 @@ use Rattle.journal_core.specs.declared.stamped.Stamped.{Stamped}
 use Rattle.kernel_model.specs.Script.{IsSoundScript}
 use Rattle.world_model.specs.World.{IsNode, World, numbers, node_count, opening_world}
 use Rattle.world_model.specs.Run.{IsRunOf}
-use Rattle.log_laws.specs.Merge.{NodeTurn, log_of}
-use Rattle.log_laws.specs.EventLogs.{EventsMayMerge, event_item, event_item_of, event_log}
-use Rattle.log_laws.proofs.Lists.{log-of-own, log-of-other}
+use Rattle.log_laws.specs.Merge.{MayMerge, NodeTurn}
+use Rattle.log_laws.specs.EventLogs.{event_item, event_item_of, event_log}
+use Rattle.log_laws.proofs.Lists.{log_of, log-of-own, log-of-other}
+use Rattle.log_laws.proofs.ByNode.{by-node}
 use Rattle.log_laws.proofs.RunEnds.{one-end}
 use Rattle.log_model.specs.Views.{Parting}
 use Rattle.thread_laws.specs.Joined.{kept_logs}
@@ -33,9 +34,9 @@ logs-are-kept script journal partings t =
 
 -- the logs of the threads may be merged
 pub logs-may-merge : (script : Script) (journal : List Stamped) (partings : List Parting) → NodesMayMerge
-    → IsThreaded script journal partings → EventsMayMerge (logs_in partings)
+    → IsThreaded script journal partings → MayMerge (logs_in partings)
 logs-may-merge script journal partings may t =
-    subst (λ (xs : List (List (merged.Stamped Event))). EventsMayMerge xs)
+    subst (λ (xs : List (List (merged.Stamped Event))). MayMerge xs)
     (sym (logs-are-kept script journal partings t)) (may script t.nodes journal t.joined)
 
 pub threads-run : (script : Script) (journal : List Stamped) (partings : List Parting)
@@ -109,7 +110,7 @@ merged-logs script journal partings events t r first (suc count) low high =
       ap (λ k. stamps.items_of k events) (t.joined.number first is)
           ∙ ap (λ (es : List (merged.Stamped Event)). stamps.items_of first es) r.items
           ∙ items-of-turns first r.turns
-          ∙ ap (event_log first) (r.run.merge.each first is)
+          ∙ ap (event_log first) ((by-node script r.logs r.turns r.run.merge).each first is)
           ∙ sym (r.kept first is),
       merged-logs script journal partings events t r (first + 1) count (omega arith) (omega (arith, high)),
     )

@@ -2,7 +2,7 @@
 ghost use Rattle.std.specs.Prelude.{◌≡◌, map, IfOk};
 ghost use Rattle.kernel_model.specs.Script.{IsSoundScript};
 ghost use Rattle.stamp_merge.specs.Merge.{IsMerge};
-ghost use Rattle.log_laws.specs.EventLogs.{EventsMayMerge};
+ghost use Rattle.log_laws.specs.Merge.{MayMerge};
 ghost use Rattle.pico_run.specs.Joined.{IsThreaded};
 ghost use Rattle.pico_run.specs.Resting.{IsGoing, logs_in};
 
@@ -31,7 +31,7 @@ fn copy_log(alloc: Global, log: &[Stamped<Event>]) -> Result<Log, Memory>
 
 /// The events of all nodes, by stamp and node.
 fn merge_logs(alloc: Global, partings: &[Parting]) -> Result<Merged<Event>, Memory>
-    requires { EventsMayMerge (logs_in partings.now) }
+    requires { MayMerge (logs_in partings.now) }
     ensures { IfOk result (λ merged. IsMerge (logs_in partings.now) merged) }
 {
     let mut logs = Logs::new(alloc);

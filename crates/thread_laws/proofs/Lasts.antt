@@ -4,8 +4,9 @@ use Rattle.std.specs.List.{AllByRecursion}
 use Rattle.std.proofs.lemmas.Option.{slice_get-get_or}
 use Rattle.pico_base.specs.declared.script.Event.{Event}
 use Rattle.stamp_merge.specs.declared.Stamped as merged
+use Rattle.stamp_merge.specs.Merge.{IsBefore, AreInOrder}
 use Rattle.stamp_merge.proofs.Filters.{all-map}
-use Rattle.log_laws.specs.Merge.{NodeTurn, IsBefore, AreInOrder}
+use Rattle.log_laws.specs.Merge.{NodeTurn, turn_item}
 use Rattle.log_laws.specs.EventLogs.{event_item}
 use Rattle.log_laws.specs.Follows.{AreBelow}
 use Rattle.log_laws.proofs.Lists.{right-all, not-below}
@@ -29,7 +30,7 @@ not-empty [] e h = absurd (cc)
 not-empty (x ∷ front) e h = absurd (cc)
 
 first-low : (t : NodeTurn) (turns : List NodeTurn) (front : List Item) (e : Item)
-    → AllByRecursion (IsBefore t) turns → map event_item turns ≡ front ++ e ∷ []
+    → AllByRecursion (IsBefore (turn_item t)) (map turn_item turns) → map event_item turns ≡ front ++ e ∷ []
     → AllByRecursion (λ (u : NodeTurn). u.turn.stamp ≤ e.stamp) turns → t.turn.stamp ≤ e.stamp
 first-low t [] front e before h all = absurd (not-empty front e h)
 first-low t (u ∷ turns) front e before h all =
@@ -39,7 +40,7 @@ first-low t (u ∷ turns) front e before h all =
 
 -- no turn has a higher one
 up-to-last : (turns : List NodeTurn) (front : List Item) (e : Item)
-    → AreInOrder turns → map event_item turns ≡ front ++ e ∷ []
+    → AreInOrder (map turn_item turns) → map event_item turns ≡ front ++ e ∷ []
     → AllByRecursion (λ (t : NodeTurn). t.turn.stamp ≤ e.stamp) turns
 up-to-last [] front e order h = tt
 up-to-last (t ∷ turns) [] e order h =
@@ -60,8 +61,8 @@ below-next n turns all = all-map (λ (t : NodeTurn) low. next t.turn.stamp low) 
     next m low = omega arith
 
 -- where the last stamp is the greatest, all are below the one after it
-pub below-last : (turns : List NodeTurn) (stamp : ℕ) → AreInOrder turns → IsLastStamp (map event_item turns) stamp
-    → AreBelow (stamp + 1) turns
+pub below-last : (turns : List NodeTurn) (stamp : ℕ) → AreInOrder (map turn_item turns)
+    → IsLastStamp (map event_item turns) stamp → AreBelow (stamp + 1) turns
 below-last turns stamp order (OfNone none least) = no-items (λ (t : NodeTurn). t.turn.stamp < stamp + 1) turns none
 below-last turns stamp order (OfLast front e is same) =
     subst (λ (n : ℕ). AreBelow (n + 1) turns) same (below-next e.stamp turns (up-to-last turns front e order is))

@@ -6,7 +6,8 @@ use Rattle.stamp_merge.specs.declared.Stamped.{Stamped}
 use Rattle.stamp_merge.specs.Merge as stamps
 use Rattle.world_model.specs.World.{IsNode, numbers, node_count}
 use Rattle.log_laws.specs.Logs.{Log}
-use Rattle.log_laws.specs.EventLogs.{event_log, event_logs_from, event_logs_of, EventsMayMerge, HasTurns}
+use Rattle.log_laws.specs.Merge.{MayMerge}
+use Rattle.log_laws.specs.EventLogs.{event_log, event_logs_from, event_logs_of, HasTurns}
 use Rattle.log_laws.proofs.EventLogs.{event_logs_may_merge_lemma, events_merge_as_turns_lemma}
 use Rattle.log_model.specs.Views.{LoggedNode}
 use Rattle.thread_laws.specs.Joined.{kept_logs}
@@ -39,9 +40,9 @@ module _ (script : Script) (nodes : ℕ → LoggedNode) (have : HaveMade script 
           let low = among.low in let high = among.high in record { low = low; high = omega arith }
 
   -- they may be merged
-  pub may-merge : EventsMayMerge (kept_logs script nodes)
+  pub may-merge : MayMerge (kept_logs script nodes)
   may-merge =
-      subst EventsMayMerge (sym kept-are)
+      subst MayMerge (sym kept-are)
       (event_logs_may_merge_lemma script have.logs (λ p is. (have.made p is).rise))
 
   -- and their merge is made of the turns

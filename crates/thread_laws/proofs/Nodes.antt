@@ -5,7 +5,8 @@ use Rattle.std.proofs.lemmas.Bool.{cases_lt}
 use Rattle.pico_base.specs.declared.script.Script.{Script}
 use Rattle.world_model.specs.Node.{Node, opening_node}
 use Rattle.world_model.specs.World.{IsNode, node_count}
-use Rattle.log_laws.specs.Logs.{Log, LeadsTo, StampsRise, GoesBetween}
+use Rattle.stamp_merge.specs.Merge.{StampsRise}
+use Rattle.log_laws.specs.Logs.{Log, items_in, LeadsTo, GoesBetween}
 use Rattle.log_laws.specs.EventLogs.{event_log}
 use Rattle.log_model.specs.Views.{LoggedNode}
 use Rattle.log_model.specs.Logged.{others_of, others_in, IsLineOf, IsDrawn, Stands, GoesToOthers, SendsFrames, entries_under, IsLogged}
@@ -15,7 +16,7 @@ pub record HasMade (script : Script) (p : ℕ) (l : LoggedNode) (turns : Log) (l
   pub number : l.number ≡ p
   pub other_nodes : others_in l.lines ≡ others_of script p
   pub leads : LeadsTo script (opening_node p) turns last
-  pub rise : StampsRise turns
+  pub rise : StampsRise (items_in p turns)
   pub log : l.log ≡ event_log p turns
   pub own : l.seat.own ≡ flat_map (entries_under p) turns
   pub between : AllByRecursion (GoesBetween script) turns
@@ -32,7 +33,7 @@ has-made script p l is number =
       number = number;
       other_nodes = subst (λ n. others_in l.lines ≡ others_of script n) number is.of_script.others;
       leads = subst (λ n. LeadsTo script (opening_node n) is.turns is.last) number is.leads;
-      rise = is.rise;
+      rise = subst (λ n. StampsRise (items_in n is.turns)) number is.rise;
       log = subst (λ n. l.log ≡ event_log n is.turns) number is.log;
       own = subst (λ n. l.seat.own ≡ flat_map (entries_under n) is.turns) (is.seat ∙ number) is.own;
       between = is.between;

@@ -15,12 +15,13 @@ use Rattle.kernel_model.specs.Script.{IsSoundScript}
 use Rattle.world_model.specs.World.{IsNode, World, step, is_enabled}
 use Rattle.world_model.specs.Schedule.{node_of}
 use Rattle.log_laws.specs.Logs.{Log}
-use Rattle.log_laws.specs.Merge.{NodeTurn, log_of}
+use Rattle.log_laws.specs.Merge.{NodeTurn}
 use Rattle.log_laws.specs.Journal.{JournalEntry, journal_entry, IsJournalOf}
 use Rattle.log_laws.specs.EventLogs.{event_item_of, event_item, event_log}
 use Rattle.log_laws.specs.Follows.{IsRunOfLogs, AreBelow, TurnFollows, logs_after}
 use Rattle.log_laws.proofs.JournalsFollow.{event-entered}
-use Rattle.log_laws.proofs.Lists.{map-append, append-all, left-all, right-all, log-of-own, log-of-other}
+use Rattle.log_laws.proofs.Lists.{map-append, append-all, left-all, right-all, log_of, log-of-own, log-of-other}
+use Rattle.log_laws.proofs.ByNode.{by-node}
 use Rattle.log_laws.proofs.OneMore.{after-own, after-other}
 use Rattle.log_model.specs.Views.{LoggedNode}
 use Rattle.thread_laws.specs.Joined.{entry_of_node, journal_of}
@@ -236,5 +237,5 @@ pub items-of-node : (script : Script) (nodes : ℕ → LoggedNode) (journal : Li
 items-of-node script nodes journal merged t p is =
     ap (stamps.items_of p) t.items
     ∙ items-of-turns p t.turns
-    ∙ ap (event_log p) (t.run.merge.each p is)
+    ∙ ap (event_log p) ((by-node script t.logs t.turns t.run.merge).each p is)
     ∙ sym (t.kept p is)

@@ -8,9 +8,9 @@ use Rattle.journal_core.specs.declared.stamped.Stamped.{Stamped}
 use Rattle.kernel_model.specs.Script.{IsSoundScript}
 use Rattle.world_model.specs.World.{IsNode, World, step, is_enabled}
 use Rattle.log_laws.specs.Logs.{Log}
-use Rattle.log_laws.specs.Merge.{NodeTurn, events_of}
+use Rattle.log_laws.specs.Merge.{MayMerge, NodeTurn, events_of}
 use Rattle.log_laws.specs.Journal.{IsJournalOf}
-use Rattle.log_laws.specs.EventLogs.{EventsMayMerge, event_item, event_log}
+use Rattle.log_laws.specs.EventLogs.{event_item, event_log}
 use Rattle.log_laws.specs.Follows.{IsRunOfLogs, AreBelow, TurnFollows}
 use Rattle.log_model.specs.Views.{LoggedNode}
 use Rattle.thread_laws.specs.Joined.{AreJoined, kept_logs, journal_of}
@@ -18,7 +18,7 @@ use Rattle.thread_laws.specs.Joined.{AreJoined, kept_logs, journal_of}
 -- The nodes' logs may be merged.
 abbrev pub NodesMayMerge : Type 0
 NodesMayMerge = (script : Script) (nodes : ℕ → LoggedNode) (journal : List Stamped) → AreJoined script nodes journal
-    → EventsMayMerge (kept_logs script nodes)
+    → MayMerge (kept_logs script nodes)
 
 -- What the threads did, each by itself: turns whose logs are consistent and lead to a world. The merged events are
 -- theirs, the journal is theirs and the world's, and no node met a fault.

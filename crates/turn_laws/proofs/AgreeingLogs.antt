@@ -12,9 +12,11 @@ use Rattle.world_laws.proofs.Streams.{Square}
 use Rattle.log_laws.specs.Follows.{IsThere}
 use Rattle.log_laws.specs.Laws.{IsRunOfTurns}
 use Rattle.log_laws.specs.Logs.{AreConsistent, GoesBetween, Input, IsTakenLater, LeadsTo, Log, Logged, Makes, Runs, StampedFrame, Takes, frame_of, sends_of, sent_in, taken_if, taken_in, takes_of}
-use Rattle.log_laws.specs.Merge.{AreInOrder, IsBefore, IsMerge, NodeTurn, event_of, log_of, turn_if}
+use Rattle.stamp_merge.specs.Merge.{AreInOrder}
+use Rattle.log_laws.specs.Merge.{IsMerge, NodeTurn, event_of, turn_item}
+use Rattle.log_laws.proofs.ByNode.{IsMergeByNode, by-node, from-nodes}
 use Rattle.log_laws.proofs.Halfway.{Ends, IsHalfway, Nodes, OnWay, nodes_after}
-use Rattle.log_laws.proofs.Lists.{all-of-log, append-all, log-of-other, log-of-own, not-below, stamps-of-sent}
+use Rattle.log_laws.proofs.Lists.{all-of-log, append-all, log-of-other, log-of-own, log_of, none-below, stamps-of-sent, turn_if}
 use Rattle.log_laws.proofs.Turns.{Advances, advances}
 use Rattle.log_laws.proofs.Whole.{all-from-logs, consistent_logs_are_runs_lemma, length-nodes, opening-square}
 use Rattle.turn_laws.specs.Laws.{GoesToAnother, IsTurnIn}
@@ -106,7 +108,7 @@ record IsSoFar (script : Script) (ends : Ends) (w : World) (now : Nodes) (on_way
   stream_is : (p q : ℕ) → IsNode script p → IsNode script q → stream w p q ≡ map frame_of (on_way p q)
   balance : (p q : ℕ) → IsNode script p → IsNode script q
       → taken_in q (log_of p turns) ++ ends.untaken p q ≡ on_way p q ++ sent_in p (log_of q turns)
-  in_order : AreInOrder turns
+  in_order : AreInOrder (map turn_item turns)
   nodes : AllByRecursion (λ t. IsNode script t.node) turns
   taken : AllByRecursion (λ t. IsTakenLater script t.turn.stamp t.turn.input) turns
 
@@ -132,11 +134,6 @@ module _ (script : Script) (sound : IsSoundScript script) (ends : Ends) (w : Wor
       ∙ so_far.balance p q is_p is_q
       ∙ ap (λ (fs : Frames). on_way p q ++ fs) (split-sent (nat_eq t.node q) t.turn p (log_of q turns))
 
-  none-below : (us : List NodeTurn) → AllByRecursion (IsBefore t) us
-      → AllByRecursion (λ (u : NodeTurn). t.turn.stamp ≤ u.turn.stamp) us
-  none-below [] h = tt
-  none-below (u ∷ us) h = (not-below t u h.0, none-below us h.1)
-
   -- what is still to be sent has high stamps
   still-high : (p q : ℕ) → AllByRecursion (λ (f : StampedFrame). t.turn.stamp ≤ f.stamp)
       (sends p q ++ sent_in p (log_of q turns))
@@ -146,7 +143,7 @@ module _ (script : Script) (sound : IsSoundScript script) (ends : Ends) (w : Wor
       (stamps-of-sent (λ stamp. t.turn.stamp ≤ stamp) p (log_of q (t ∷ []))
       (all-of-log (λ (l : Logged). t.turn.stamp ≤ l.stamp) q (t ∷ []) (same, tt)))
       (stamps-of-sent (λ stamp. t.turn.stamp ≤ stamp) p (log_of q turns)
-      (all-of-log (λ (l : Logged). t.turn.stamp ≤ l.stamp) q turns (none-below turns so_far.in_order.0)))
+      (all-of-log (λ (l : Logged). t.turn.stamp ≤ l.stamp) q turns (none-below t turns so_far.in_order.0)))
 
   -- so a frame that is taken now stands first on its way
   heads : (f : StampedFrame) (fs way sent : Frames) → f.stamp < t.turn.stamp → f ∷ fs ≡ way ++ sent
@@ -382,13 +379,16 @@ opening-run script =
       streams = λ p q is_p is_q. refl;
       between = λ p is. tt;
     })
-    (record { in_order = tt; each = λ p is. refl; nodes = tt })
+    (from-nodes script (λ p. []) [] (record { in_order = tt; each = λ p is. refl; nodes = tt }))
 
 module _ (script : Script) (logs : ℕ → Log) (last : ℕ → Node) (untaken : ℕ → ℕ → List StampedFrame)
     (turns : List NodeTurn) (sound : IsSoundScript script) (agree : Agree script logs last untaken)
     (merge : IsMerge script logs turns) where
   abbrev ends : Ends
   ends = record { last = last; untaken = untaken }
+
+  nodes : IsMergeByNode script logs turns
+  nodes = by-node script logs turns merge
 
   none-from-outside : (p : ℕ) → IsNode script p → (q : ℕ) → (IsNode script q → ⊥) → taken_in q (logs p) ≡ []
   none-from-outside p is q out =
@@ -404,17 +404,17 @@ module _ (script : Script) (logs : ℕ → Log) (last : ℕ → Node) (untaken :
         square = opening-square script;
         node = λ p is. ap (λ (v : World). node_at v p) (sym same) ∙ run.node p is;
         leads = λ p is.
-            subst (λ (l : Log). LeadsTo script (opening_node p) l (last p)) (sym (merge.each p is)) (agree.leads p is);
+            subst (λ (l : Log). LeadsTo script (opening_node p) l (last p)) (sym (nodes.each p is)) (agree.leads p is);
         stream_is = λ p q is_p is_q. ap (λ (v : World). stream v p q) (sym same) ∙ run.stream_is p q is_p is_q;
         balance = λ p q is_p is_q.
-            ap (λ (l : Log). taken_in q l ++ untaken p q) (merge.each p is_p)
+            ap (λ (l : Log). taken_in q l ++ untaken p q) (nodes.each p is_p)
             ∙ agree.streams p q is_p
-            ∙ ap (sent_in p) (sym (merge.each q is_q));
-        in_order = merge.in_order;
-        nodes = merge.nodes;
-        taken = all-from-logs (λ turn. IsTakenLater script turn.stamp turn.input) script turns merge.nodes (λ p is.
+            ∙ ap (sent_in p) (sym (nodes.each q is_q));
+        in_order = nodes.in_order;
+        nodes = nodes.nodes;
+        taken = all-from-logs (λ turn. IsTakenLater script turn.stamp turn.input) script turns nodes.nodes (λ p is.
             subst (λ (l : Log). AllByRecursion (λ turn. IsTakenLater script turn.stamp turn.input) l)
-            (sym (merge.each p is)) (all-taken script (logs p) (none-from-outside p is) (agree.later p is)));
+            (sym (nodes.each p is)) (all-taken script (logs p) (none-from-outside p is) (agree.later p is)));
       }
 
   each-goes : AllByRecursion (λ t. GoesBetween script t.turn) turns
@@ -429,7 +429,7 @@ module _ (script : Script) (logs : ℕ → Log) (last : ℕ → Node) (untaken :
         leads = agree.leads;
         streams = λ p q is_p is_q. agree.streams p q is_p;
         between = λ p is.
-            subst (λ (l : Log). AllByRecursion (GoesBetween script) l) (merge.each p is)
+            subst (λ (l : Log). AllByRecursion (GoesBetween script) l) (nodes.each p is)
             (all-of-log (GoesBetween script) p turns each-goes);
       }
 

@@ -6,7 +6,8 @@ use Rattle.pico_base.specs.declared.script.Script.{Script}
 use Rattle.kernel_model.specs.Script.{IsSoundScript}
 use Rattle.world_model.specs.Node.{Node, opening_node}
 use Rattle.world_model.specs.World.{IsNode}
-use Rattle.log_laws.specs.Logs.{AreConsistent, Input, LeadsTo, Log, Logged, Runs, StampedFrame, StampsRise, Takes, sent_in, taken_in}
+use Rattle.stamp_merge.specs.Merge.{StampsRise}
+use Rattle.log_laws.specs.Logs.{AreConsistent, Input, LeadsTo, Log, Logged, Runs, StampedFrame, Takes, items_in, sent_in, taken_in}
 use Rattle.log_laws.specs.Merge.{IsMerge, NodeTurn}
 use Rattle.log_laws.specs.Laws.{IsRunOfTurns}
 
@@ -23,7 +24,7 @@ IsLater turn = IsSentBefore turn.stamp turn.input
 -- than it was sent. `last` are the nodes afterwards, and `untaken` is what is on its way, to a node from another.
 pub record Agree (script : Script) (logs : ℕ → Log) (last : ℕ → Node)
     (untaken : ℕ → ℕ → List StampedFrame) : Type 0 where
-  pub rise : (p : ℕ) → IsNode script p → StampsRise (logs p)
+  pub rise : (p : ℕ) → IsNode script p → StampsRise (items_in p (logs p))
   pub leads : (p : ℕ) → IsNode script p → LeadsTo script (opening_node p) (logs p) (last p)
   pub others : (q : ℕ) → (IsNode script q → ⊥) → logs q ≡ []
   pub streams : (p q : ℕ) → IsNode script p → taken_in q (logs p) ++ untaken p q ≡ sent_in p (logs q)

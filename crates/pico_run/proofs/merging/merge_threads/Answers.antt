@@ -2,7 +2,7 @@ use Rattle.std.proofs.Common.{◌∙◌, List, map, ap, sym, subst}
 use Rattle.pico_base.specs.declared.script.Event.{Event}
 use Rattle.stamp_merge.specs.declared.Stamped.{Stamped}
 use Rattle.stamp_merge.specs.Merge.{IsMerge}
-use Rattle.log_laws.specs.EventLogs.{EventsMayMerge}
+use Rattle.log_laws.specs.Merge.{MayMerge}
 use Rattle.log_model.specs.Views.{Parting}
 use Rattle.pico_run.specs.Resting.{IsGoing, logs_in}
 use Rattle.pico_run.proofs.Merges.{going-start, logs-may-merge, plain-run}
@@ -10,7 +10,7 @@ use Rattle.pico_run.proofs.merging.merge_threads.Goals as goal
 
 pub merge_logs-requires : goal.merge_logs-requires
 merge_logs-requires c =
-    subst (λ (ps : List Parting). EventsMayMerge (logs_in ps)) (sym c.deref.ensures.value)
+    subst (λ (ps : List Parting). MayMerge (logs_in ps)) (sym c.deref.ensures.value)
     (logs-may-merge c.args.script c.args.threaded.journal c.args.threaded.partings.items c.nodes_may_merge.ensures
     c.requires.threaded)
 
