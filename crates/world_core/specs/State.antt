@@ -1,6 +1,7 @@
 -- What a state of the program stands for: a world, where none of its nodes is spent.
 use Rattle.std.specs.Prelude.{◌≡◌, ℕ, ◌-◌, ◌<◌, ◌≤◌, List, [], ◌∷◌, length, map, set, get_or, Option, Some, None}
 use Rattle.pico_base.specs.declared.script.Event.{Event}
+use Rattle.rpc_frame.specs.declared.frame.Frame.{Frame}
 use Rattle.world_model.specs.Node.{Node}
 use Rattle.kernel_model.specs.Script.{IsSoundScript}
 use Rattle.world_model.specs.World.{World, Streams, node_at, with_all_sent, after_turn, step}
@@ -54,6 +55,14 @@ pub record MaySend (from : ℕ) (nodes : List (Option Node)) (streams : Streams)
   pub seats : AreSeats nodes streams
   pub there : from ≤ length streams
   pub counted : counts ≡ counts_of nodes streams
+
+-- Frames of this node have gone their ways: each stands in its stream behind those that were sent before, the counts are
+-- right again, and none is left.
+pub record HaveGone (from : ℕ) (nodes : List (Option Node)) (streams : Streams) (sends : List (ℕ × Frame))
+    (next : Streams) (counts : List ℕ) (left : List (ℕ × Frame)) : Type 0 where
+  pub sent : next ≡ with_all_sent from streams sends
+  pub counted : counts ≡ counts_of nodes next
+  pub emptied : left ≡ []
 
 -- Runs of a sound script lead to it behind entries that were let go, and its counts are right.
 pub record IsAlive (s : State) : Type 0 where

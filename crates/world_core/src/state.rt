@@ -14,7 +14,7 @@ ghost use Rattle.world_core.specs.Behind.{without_journal};
 ghost use Rattle.world_core.specs.Inbox.{from_node, with_from};
 ghost use Rattle.world_core.specs.Stream.{frame_of};
 ghost use Rattle.world_core.specs.Counts.{counts_of};
-ghost use Rattle.world_core.specs.State.{AreWhole, AreSeats, AreCounted, OthersAreCounted, MaySend, world_of, IsSent, IsAfterTurn, IsStep, IsAlive};
+ghost use Rattle.world_core.specs.State.{AreWhole, AreSeats, AreCounted, OthersAreCounted, MaySend, HaveGone, world_of, IsSent, IsAfterTurn, IsStep, IsAlive};
 
 use crate::counts::{Counts, count_all, count_of};
 use crate::inbox::{Inbox, place};
@@ -145,9 +145,8 @@ fn send_each(
     sends: &mut Vec<(Node, Frame)>,
 ) -> Result<(), Memory>
     requires { MaySend from nodes.now inboxes.old.items counts.old }
-    ensures sent { OnOk result (inboxes.new.items ≡ with_all_sent from inboxes.old.items sends.old.items) }
-    ensures counted { OnOk result (counts.new ≡ counts_of nodes.now inboxes.new.items) }
-    ensures emptied { sends.new.items ≡ [] }
+    ensures { OnOk result (HaveGone from nodes.now inboxes.old.items sends.old.items inboxes.new.items counts.new
+        sends.new.items) }
 {
     for sent in sends.drain(..) {
         send(nodes, inboxes, counts, from, sent)?;
@@ -191,9 +190,8 @@ fn send_some(
 ) -> Result<(), Memory>
     requires ready { MaySend from nodes.now inboxes.old.items counts.old }
     requires some { 0 < length sends.old.items }
-    ensures sent { OnOk result (inboxes.new.items ≡ with_all_sent from inboxes.old.items sends.old.items) }
-    ensures counted { OnOk result (counts.new ≡ counts_of nodes.now inboxes.new.items) }
-    ensures emptied { sends.new.items ≡ [] }
+    ensures { OnOk result (HaveGone from nodes.now inboxes.old.items sends.old.items inboxes.new.items counts.new
+        sends.new.items) }
 {
     let at = place(sends[0].0);
     if sends.len() == 1 && at < inboxes.len() && !inboxes[at].is_filled_from(from) {
@@ -213,9 +211,8 @@ fn send_all(
     sends: &mut Vec<(Node, Frame)>,
 ) -> Result<(), Memory>
     requires { MaySend from nodes.now inboxes.old.items counts.old }
-    ensures sent { OnOk result (inboxes.new.items ≡ with_all_sent from inboxes.old.items sends.old.items) }
-    ensures counted { OnOk result (counts.new ≡ counts_of nodes.now inboxes.new.items) }
-    ensures emptied { sends.new.items ≡ [] }
+    ensures { OnOk result (HaveGone from nodes.now inboxes.old.items sends.old.items inboxes.new.items counts.new
+        sends.new.items) }
 {
     if sends.is_empty() {
         return Ok(());
