@@ -1,18 +1,20 @@
 //! A node that logs, as its thread sees it.
 ghost use Rattle.std.specs.Prelude.{◌≡◌, ◌≢◌, ◌≤◌, true, [], length, map, IfOk, IfSome, IsSome, None, Some, vec_capacity};
 ghost use Rattle.std.specs.List.{AllByRecursion};
+ghost use Rattle.pico_base.specs.declared.script.Script.{Script};
 ghost use Rattle.kernel_model.specs.Script.{IsSoundScript};
 ghost use Rattle.log_model.specs.Logged.{IsOfScript};
 ghost use Rattle.log_model.specs.Turns.{Turned};
 ghost use Rattle.node_core.specs.Lives.{has_left};
 ghost use Rattle.log_model.specs.declared.answer.LogFault.TheVariants as faults;
 ghost use Rattle.node_lines.specs.Lines.{AreSameLines};
-ghost use Rattle.node_log.specs.Steps.{IsSameSeat};
+ghost use Rattle.node_log.specs.Steps.{AreIdleTurns, IsSameSeat, IsWaiting};
 ghost use Rattle.node_log.specs.Ends.{IsUntaken, line_of, end_of};
 
 use crate::made::{answer_after, answer_of, fault_after, quiet_after};
 use crate::parting::{Finished, Log, Parting};
 use crate::works::Works;
+use host_iface::Gate;
 use journal_core::{JSeat, JournalLock};
 use log_model::{LogFault, TurnAnswer};
 use node_core::PicoNode;
@@ -168,6 +170,32 @@ impl Logged {
         self.quiet = quiet_after(self.quiet, &turned);
         self.fault = fault_after(&turned);
         answer_after(&turned)
+    }
+
+    /// Whether it makes turns, and its node is born and can run no line.
+    #[inline(always)]
+    fn is_waiting(&self) -> bool
+        ensures { result ≡ true → (self.now.fault ≡ None) × IfSome self.now.node IsWaiting × IsSome self.now.node }
+    {
+        self.fault.is_none() && self.works.is_waiting()
+    }
+
+    /// Makes further turns, at most so many, for as long as each is a look at all streams together that finds nothing, of
+    /// a node that is born and can run no line; and says how many. The gate is passed before each, by the turns behind so
+    /// many; and where there are fewer than `most`, before the next one, too, which is to be made by [`Logged::turn`].
+    #[inline(always)]
+    pub fn wait<G: Gate>(&mut self, gate: &G, turns: u64, most: u64) -> u64
+        ensures turned { (script : Script) → IsOfScript script self.old
+            → AreIdleTurns script result self.old self.new }
+    {
+        if most > u64::MAX - self.silent || !self.is_waiting() {
+            gate.pass(self.works.number, turns.saturating_add(1));
+            return 0;
+        }
+        let count = self.works.count_silences(gate, turns, most);
+        self.silent += count;
+        self.quiet = self.quiet.saturating_add(count);
+        count
     }
 
     /// The parts as they stand. It takes no memory.

@@ -1,5 +1,5 @@
 //! The parts of a node that logs, and the turn that they make.
-ghost use Rattle.std.specs.Prelude.{◌≡◌, ℕ, IfErr, IfOk, IfSome, OnOk, Some, None, Err, IsSome, IsTrue, true, ◌||◌};
+ghost use Rattle.std.specs.Prelude.{◌≡◌, ◌≤◌, ℕ, IfErr, IfOk, IfSome, OnOk, Some, None, Err, IsSome, IsTrue, true, ◌||◌};
 ghost use Rattle.kernel_model.specs.Script.{IsSoundScript};
 ghost use Rattle.world_model.specs.Node.{can_run, is_born};
 ghost use Rattle.world_model.specs.World.{is_checkpoint};
@@ -17,6 +17,7 @@ use crate::looks::found_by;
 use crate::made::{Made, made_of};
 use crate::parting::Log;
 use crate::stamps::note_event;
+use host_iface::Gate;
 use journal_core::{JSeat, JournalLock};
 use log_model::{Found, LogFault};
 use node_core::{Input, PicoNode, Turn};
@@ -202,13 +203,38 @@ impl Works {
         self.make(rt, lock, script, floor, event, Input::Take { from, frame })
     }
 
+    /// Whether the node is born and can run no line.
+    #[inline(always)]
+    pub fn is_waiting(&self) -> bool
+        requires whole { IsSome self.now.node }
+        ensures { result ≡ true → IfSome self.now.node IsWaiting }
+    {
+        self.node.born() && !self.node.can_run()
+    }
+
     /// Whether a turn would find nothing and run no line, of a node that is born: then that is its look at all streams.
     #[inline(always)]
     pub fn is_idle(&self) -> bool
         requires whole { IsSome self.now.node }
         ensures { result ≡ true → IfSome self.now.node IsWaiting }
     {
-        are_silent(self.lines.as_slice()) && self.node.born() && !self.node.can_run()
+        are_silent(self.lines.as_slice()) && self.is_waiting()
+    }
+
+    /// Looks at all streams together until something is on its way, but at most so often, and says how often there was
+    /// nothing. The gate is passed before each look, as by the turns behind so many.
+    #[inline(always)]
+    pub fn count_silences<G: Gate>(&self, gate: &G, turns: u64, most: u64) -> u64
+        ensures { result ≤ most }
+    {
+        let lines = self.lines.as_slice();
+        for count in 0..most {
+            gate.pass(self.number, turns.saturating_add(count).saturating_add(1));
+            if !are_silent(lines) {
+                return count;
+            }
+        }
+        most
     }
 
     /// Whether its node has handed over all that it held.

@@ -1,9 +1,9 @@
 //! A thread's work: turns of its node, until it is quiet.
-ghost use Rattle.std.specs.Prelude.{◌≡◌, ℕ, ◌+◌, ◌<◌, ◌≤◌, length, slice_index_or};
+ghost use Rattle.std.specs.Prelude.{◌≡◌, ◌≢◌, ℕ, ◌+◌, ◌<◌, ◌≤◌, false, length, slice_index_or, None};
 ghost use Rattle.kernel_model.specs.Script.{IsSoundScript};
 ghost use Rattle.log_model.specs.Views.{LoggedNode};
 ghost use Rattle.pico_run.specs.Opened.{AreReady};
-ghost use Rattle.pico_run.specs.Turning.{CanTurn, IsWorked};
+ghost use Rattle.pico_run.specs.Turning.{CanTurn, IsTurning, IsWorked};
 
 use crate::beds::Beds;
 use crate::grid::node_at;
@@ -33,6 +33,24 @@ const SOME: u64 = 4096;
 /// so many, between which it sleeps. For half a second somebody may still ask it for what it doesn't hold any more.
 const LAST: u64 = 12;
 
+/// How many turns a thread has made, and in how many of them its node made an event.
+#[derive(Drop)]
+struct Counts {
+    turns: u64,
+    events: u64,
+}
+
+/// How many more idle turns a thread makes before it rests, after so many in a row.
+fn turns_to_rest(quiet: u64) -> u64 {
+    if quiet < FIRST {
+        FEW - quiet % FEW
+    } else if quiet < QUIET - LAST {
+        (SOME - (quiet - FIRST) % SOME).min(QUIET - LAST - quiet)
+    } else {
+        1
+    }
+}
+
 /// Sleeps until something is sent to the node, if it is time to; else the others are let on.
 #[cold]
 fn sleep_if_due<R: Wait>(rt: &R, beds: &Beds, node: Node, logged: &Logged) {
@@ -48,7 +66,8 @@ fn sleep_if_due<R: Wait>(rt: &R, beds: &Beds, node: Node, logged: &Logged) {
 /// Whether a thread rests after so many idle turns in a row.
 #[inline(always)]
 fn is_restful(quiet: u64) -> bool {
-    quiet % FEW == 0 && (quiet <= FIRST || quiet % SOME == FIRST) || quiet >= QUIET - LAST
+    quiet != 0 && quiet % FEW == 0 && (quiet <= FIRST || quiet % SOME == FIRST)
+        || quiet >= QUIET - LAST
 }
 
 /// Rests after some of the turns that found nothing.
@@ -59,8 +78,47 @@ fn rest_at_times<R: Wait>(rt: &R, beds: &Beds, node: Node, logged: &Logged) {
     }
 }
 
-/// Makes turns of a node until it is quiet, or a turn has a fault. The gate is passed before each turn, and told of
-/// each event. After some idle turns in a row it sleeps until something is sent to the node.
+/// Makes turns that find nothing up to the next rest, or one that finds something. The gate is passed before each turn,
+/// and told of each event. Whether the node makes turns yet.
+#[inline(always)]
+fn turn_on<R: Wait, G: Gate>(
+    rt: &R,
+    lock: &JournalLock,
+    script: &Script,
+    gate: &G,
+    beds: &Beds,
+    node: Node,
+    counts: &mut Counts,
+    logged: &mut Logged,
+) -> bool
+    requires sound { IsSoundScript script.now }
+    requires ready { CanTurn script.now lock.now logged.old }
+    ensures turning { IsTurning script.now lock.now logged.old logged.new }
+    ensures faulty { result ≡ false → logged.new.fault ≢ None }
+{
+    turns_keep_logs();
+    let most = turns_to_rest(logged.quiet());
+    let waited = logged.wait(gate, counts.turns, most);
+    counts.turns = counts.turns.saturating_add(waited);
+    if waited == most {
+        return true;
+    }
+    counts.turns = counts.turns.saturating_add(1);
+    match logged.turn(rt, lock, script) {
+        TurnAnswer::Did => {
+            counts.events = counts.events.saturating_add(1);
+            gate.did(node, counts.events);
+            beds.goes_on();
+            true
+        }
+        TurnAnswer::Piece => true,
+        TurnAnswer::Idle => true,
+        _ => false,
+    }
+}
+
+/// Makes turns of a node until it is quiet, or a turn has a fault. After some idle turns in a row it sleeps until
+/// something is sent to the node.
 fn turn_until_quiet<R: Wait, G: Gate>(
     rt: &R,
     lock: &JournalLock,
@@ -74,27 +132,18 @@ fn turn_until_quiet<R: Wait, G: Gate>(
     requires ready { CanTurn script.now lock.now logged.old }
     ensures { IsWorked script.now logged.old logged.new }
 {
-    turns_keep_logs();
-    let mut turns = 0u64;
-    let mut events = 0u64;
+    let mut counts = Counts {
+        turns: 0,
+        events: 0,
+    };
     for _ in rt.forever() {
-        turns = turns.saturating_add(1);
-        gate.pass(node, turns);
-        match logged.turn(rt, lock, script) {
-            TurnAnswer::Did => {
-                events = events.saturating_add(1);
-                gate.did(node, events);
-                beds.goes_on();
-            }
-            TurnAnswer::Piece => {}
-            TurnAnswer::Idle => {
-                if logged.quiet() >= QUIET {
-                    return;
-                }
-                rest_at_times(rt, beds, node, logged);
-            }
-            _ => return,
+        if !turn_on(rt, lock, script, gate, beds, node, &mut counts, logged) {
+            return;
         }
+        if logged.quiet() >= QUIET {
+            return;
+        }
+        rest_at_times(rt, beds, node, logged);
     }
     unreachable!()
 }

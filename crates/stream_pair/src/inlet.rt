@@ -106,9 +106,9 @@ impl In {
         if self.stream.queue.is_empty_as::<Takes>(&mut self.pass) {
             return None;
         }
-        let piece = self.stream.queue.pop_as::<Takes, R>(rt, &mut self.pass)?;
+        let parcel = self.stream.queue.pop_as::<Takes, R>(rt, &mut self.pass)?;
         self.bell.count_taken();
-        Some(piece)
+        Some(parcel.into_piece())
     }
 
     /// What the bell with which this stream was made says of all streams to this receiver, as [`Bell::is_silent`].

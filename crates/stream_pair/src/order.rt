@@ -1,6 +1,6 @@
 //! The rule of a stream's queue: what was sent is what was taken, followed by what the queue holds. Each kind of step
 //! has a name here: send, take, take that finds nothing, part the two ends, put them together.
-use crate::piece::Piece;
+use crate::piece::{Parcel, Piece};
 use crossbeam_queue::protocol::{Join, Lesson, Outcome, Protocol, Split};
 use crossbeam_queue::{RuledSegQueue, SegPass};
 use std::collections::LinkedList;
@@ -15,7 +15,7 @@ pub struct Hand {
 
 pub struct InOrder;
 
-impl Protocol<Piece, Hand> for InOrder {
+impl Protocol<Parcel, Hand> for InOrder {
     ghost use Rattle.std.specs.Prelude.{true, []};
     ghost use Rattle.stream_pair.specs.Order.{hand, IsInOrder};
 
@@ -75,7 +75,7 @@ impl Join<Hand> for Tells {
 /// A piece goes to the end of what was sent.
 pub struct Sends;
 
-impl Outcome<Piece, Hand> for Sends {
+impl Outcome<Parcel, Hand> for Sends {
     ghost use Rattle.std.specs.Prelude.{◌≡◌};
     ghost use Rattle.stream_pair.specs.Order.{after_send};
 
@@ -85,14 +85,14 @@ impl Outcome<Piece, Hand> for Sends {
 /// A piece goes to the end of what was taken; or the stream is empty.
 pub struct Takes;
 
-impl Outcome<Piece, Hand> for Takes {
+impl Outcome<Parcel, Hand> for Takes {
     ghost use Rattle.std.specs.Prelude.{◌≡◌};
     ghost use Rattle.stream_pair.specs.Order.{after_take};
 
     ghost then = { λ h piece new. new ≡ after_take h piece };
 }
 
-impl Lesson<Piece, Hand> for Takes {
+impl Lesson<Parcel, Hand> for Takes {
     ghost use Rattle.stream_pair.specs.Order.{WasThere};
 
     ghost fact = { WasThere };
@@ -101,18 +101,18 @@ impl Lesson<Piece, Hand> for Takes {
 /// The same by who has both ends, and so knows what the queue holds.
 pub struct TakesOn;
 
-impl Outcome<Piece, Hand> for TakesOn {
+impl Outcome<Parcel, Hand> for TakesOn {
     ghost use Rattle.stream_pair.specs.Order.{TakesNext};
 
     ghost then = { TakesNext };
 }
 
-impl Lesson<Piece, Hand> for TakesOn {
+impl Lesson<Parcel, Hand> for TakesOn {
     ghost use Rattle.std.specs.Prelude.{◌≡◌, ◌++◌};
 
     ghost fact = { λ h items. h.sent ≡ h.taken ++ items };
 }
 
-pub type Queue = RuledSegQueue<Piece, Hand, InOrder>;
+pub type Queue = RuledSegQueue<Parcel, Hand, InOrder>;
 
-pub type Pass = SegPass<Piece, Hand>;
+pub type Pass = SegPass<Parcel, Hand>;

@@ -6,7 +6,7 @@ ghost use Rattle.stream_pair.specs.Pieces.{piece, pieces, IsFrontSent};
 
 use crate::bell::Bell;
 use crate::order::{Pass, Sends, Shows};
-use crate::piece::Piece;
+use crate::piece::{Parcel, Piece};
 use crate::receipt::Receipt;
 use crate::stream::Stream;
 use pico_base::{Bytes, Memory};
@@ -75,12 +75,12 @@ impl Out {
         ensures refused { OnErr result (self.new.sent ≡ self.old.sent) }
     {
         let bytes = Bytes::from_slice(self.alloc, bytes)?;
-        let piece = Piece { stamp, bytes };
+        let parcel = Parcel::new(self.alloc, Piece { stamp, bytes })?;
         self.bell.count_sent();
         match self
             .stream
             .queue
-            .push_as::<Sends, R>(rt, &mut self.pass, piece)
+            .push_as::<Sends, R>(rt, &mut self.pass, parcel)
         {
             Ok(()) => {
                 self.bell.wake();

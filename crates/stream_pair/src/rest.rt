@@ -47,6 +47,7 @@ impl Rest {
     pub fn next<R: Wait>(&mut self, rt: &R) -> Option<Piece>
         ensures { MatchOption result ((self.old ≡ []) × (self.new ≡ [])) (λ p. self.old ≡ p ∷ self.new) }
     {
-        self.stream.queue.pop_as::<TakesOn, R>(rt, &mut self.pass)
+        let parcel = self.stream.queue.pop_as::<TakesOn, R>(rt, &mut self.pass)?;
+        Some(parcel.into_piece())
     }
 }
