@@ -66,8 +66,9 @@ not-lower stamp low (u ∷ turns) all (inl e) = let high : low ≤ u.turn.stamp 
 not-lower stamp low (u ∷ turns) all (inr has) = not-lower stamp low turns all.1 has
 
 -- the first turn's is low
-first-low : (place : ℕ) (t : NodeTurn) (turns : List NodeTurn)
-    → AllByRecursion (IsBefore (turn_item t)) (map turn_item turns) → IsNextTo place (t ∷ turns) t → t.turn.stamp ≤ place
+first-low : (place : ℕ) (t : NodeTurn) (others : List NodeTurn)
+    → AllByRecursion (IsBefore (turn_item t)) (map turn_item others) → IsNextTo place (t ∷ others) t
+    → t.turn.stamp ≤ place
 first-low place t turns before is =
     let next : t.turn.stamp ≡ is.known + 1 = is.next
     in elim is.is_known [

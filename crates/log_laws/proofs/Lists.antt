@@ -89,6 +89,7 @@ frames-of-sends to turn = frames-of-stamped turn.stamp (sent_to to turn.step.sen
 
 -- ---- one node's turns
 
+-- a turn alone where the test says yes, else none
 abbrev pub turn_if : Bool → Logged → Log
 turn_if b turn = if b then turn ∷ [] else []
 

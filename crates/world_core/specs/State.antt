@@ -56,8 +56,8 @@ pub record MaySend (from : ℕ) (nodes : List (Option Node)) (streams : Streams)
   pub there : from ≤ length streams
   pub counted : counts ≡ counts_of nodes streams
 
--- Frames of this node have gone their ways: each stands in its stream behind those that were sent before, the counts are
--- right again, and none is left.
+-- Frames of this node have gone their ways: each stands in its stream behind those that were sent before, the counts
+-- are right again, and none is left.
 pub record HaveGone (from : ℕ) (nodes : List (Option Node)) (streams : Streams) (sends : List (ℕ × Frame))
     (next : Streams) (counts : List ℕ) (left : List (ℕ × Frame)) : Type 0 where
   pub sent : next ≡ with_all_sent from streams sends
