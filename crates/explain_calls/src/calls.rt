@@ -113,26 +113,28 @@ fn may<'a>(form: &'static Form) -> Text<'a> {
     }
 }
 
+// What is told of a word that could stand at no line's end, and what is expected.
+fn never_there(text: &[u8]) -> Option<(&'static str, &'static str)> {
+    if text.starts_with(b"#") {
+        Some(("a comment has a line of its own", "the line ends here"))
+    } else if text.starts_with(b",") {
+        Some(("no blank stands before a comma", "one word"))
+    } else {
+        None
+    }
+}
+
 fn too_much<'a>(form: &'static Form, word: Word<'a>) -> Wrong<'a> {
-    if word.text.starts_with(b"#") {
-        return plain_wrong(
-            "a comment has a line of its own",
-            "the line ends here",
-            word.span(),
-        );
+    if let Some((what, expected)) = never_there(word.text) {
+        return plain_wrong(what, expected, word.span());
     }
-    if word.text.starts_with(b",") {
-        return plain_wrong("no blank stands before a comma", "one word", word.span());
-    }
-    let may = may(form);
-    if place_of(word.text, form.behind.words, 0).is_some() {
+    let is_flag = place_of(word.text, form.behind.words, 0).is_some();
+    let (what, expected) = if is_flag {
         let what = Text::whole_in("`", word.text, "` stands once, and in its order");
-        return Wrong::new(what, may, word.span());
-    }
-    let near = Nearest::told(word.text, form.behind.words, may);
-    Wrong::new(
-        Text::said(word.text, " is too much here"),
-        near,
-        word.span(),
-    )
+        (what, may(form))
+    } else {
+        let near = Nearest::told(word.text, form.behind.words, may(form));
+        (Text::said(word.text, " is too much here"), near)
+    };
+    Wrong::new(what, expected, word.span())
 }

@@ -8,57 +8,57 @@ pub static ERRORS_AND_ENDED: [&str; 13] = [
 
 // An error's name, and what it says.
 #[derive(Clone, Copy)]
-struct Meaning {
+struct Saying {
     name: &'static str,
     says: &'static str,
 }
 
-static MEANINGS: [Meaning; 12] = [
-    Meaning {
+static SAYINGS: [Saying; 12] = [
+    Saying {
         name: "ESRCH",
         says: ": no such process, or it is gone",
     },
-    Meaning {
+    Saying {
         name: "EINVAL",
         says: ": nothing has this number, or a word is out of the range that the call takes",
     },
-    Meaning {
+    Saying {
         name: "ECHILD",
         says: ": the caller has no such child, living or ended",
     },
-    Meaning {
+    Saying {
         name: "ENOENT",
         says: ": the key leads nowhere, and `create` isn't there",
     },
-    Meaning {
+    Saying {
         name: "EEXIST",
         says: ": the key leads to one already, and it would have to be new",
     },
-    Meaning {
+    Saying {
         name: "ENOMSG",
         says: ": the queue has no message of that type",
     },
-    Meaning {
+    Saying {
         name: "EAGAIN",
         says: ": there is no room in the queue, or a semaphore doesn't let an operation go on",
     },
-    Meaning {
+    Saying {
         name: "E2BIG",
         says: ": the message is longer than what is taken, or there are too many operations",
     },
-    Meaning {
+    Saying {
         name: "EFBIG",
         says: ": the set has no semaphore of that index",
     },
-    Meaning {
+    Saying {
         name: "ERANGE",
         says: ": a value would be above 32767",
     },
-    Meaning {
+    Saying {
         name: "EIDRM",
         says: ": what the caller waited on was removed",
     },
-    Meaning {
+    Saying {
         name: "EINTR",
         says: ": a signal ended the wait",
     },
@@ -66,9 +66,9 @@ static MEANINGS: [Meaning; 12] = [
 
 /// What an error's name says; none where this is the name of none.
 pub fn meaning(name: &[u8]) -> Option<&'static str> {
-    for meaning in &MEANINGS {
-        if meaning.name.as_bytes() == name {
-            return Some(meaning.says);
+    for error in &SAYINGS {
+        if error.name.as_bytes() == name {
+            return Some(error.says);
         }
     }
     None
