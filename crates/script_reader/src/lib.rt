@@ -15,7 +15,6 @@ mod script;
 mod set_forms;
 mod tables;
 mod texts;
-mod verb;
 mod words;
 
 pub use checks::MAX_LINE;
@@ -24,5 +23,4 @@ pub use fault::{ScriptFault, ScriptStop};
 pub use place::{Begun, Place};
 pub use says::{Front, Said};
 pub use script::read_script;
-pub use verb::Verb;
 pub use words::{next_line, next_word};

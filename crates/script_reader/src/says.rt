@@ -11,8 +11,8 @@ use crate::numbers::positive;
 use crate::parts::{is_block_name, variable};
 use crate::process_forms::put_exit;
 use crate::tables::Names;
-use crate::verb::Verb;
 use crate::words::{Stops, is_blank, next_word, put_words};
+use call_words::Verb;
 use pico_base::{Bytes, Line, Memory, Var};
 use std::alloc::Global;
 
