@@ -66,8 +66,9 @@ fn are_name_parts(bytes: &[u8]) -> bool
     bytes.iter().all(|b| is_name_part(*b))
 }
 
-/// Whether the word can be a block's name.
-pub(crate) fn is_block_name(word: &[u8]) -> bool
+/// Whether the word can be a block's name: a lower-case letter, and behind it at most 31 lower-case letters, digits
+/// and `_`.
+pub fn is_block_name(word: &[u8]) -> bool
     ensures { result ≡ is_name word.now }
 {
     match word {

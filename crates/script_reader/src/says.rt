@@ -275,8 +275,9 @@ fn end_line(words: &[&[u8]]) -> Said
     }
 }
 
+/// Whether the first word of a line makes it a comment: it begins with `#`.
 #[tactic(auto, unfolding(crate::specs::Says::is_comment))]
-fn is_comment(word: &[u8]) -> bool
+pub fn is_comment(word: &[u8]) -> bool
     ensures { result ≡ says.is_comment word.now }
 {
     match word {
