@@ -7,7 +7,7 @@ ghost use Rattle.sandbox_set.specs.Boxes as spec;
 use script_reader::{is_block_name, is_comment, next_word};
 
 /// What a line is in an input of sandboxes, by its words alone.
-#[derive(Clone, Copy, Debug, PartialEq, Eq)]
+#[derive(Clone, Copy)]
 pub enum Heading {
     /// It has no words, or is a comment.
     Skipped,
