@@ -185,8 +185,7 @@ impl Logged {
     /// many; and where there are fewer than `most`, before the next one, too, which is to be made by [`Logged::turn`].
     #[inline(always)]
     pub fn wait<G: Gate>(&mut self, gate: &G, turns: u64, most: u64) -> u64
-        ensures turned { (script : Script) → IsOfScript script self.old
-            → AreIdleTurns script result self.old self.new }
+        ensures { (script : Script) → IsOfScript script self.old → AreIdleTurns script result self.old self.new }
     {
         if most > u64::MAX - self.silent || !self.is_waiting() {
             gate.pass(self.works.number, turns.saturating_add(1));
