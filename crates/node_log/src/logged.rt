@@ -180,9 +180,9 @@ impl Logged {
         self.fault.is_none() && self.works.is_waiting()
     }
 
-    /// Makes further turns, at most so many, for as long as each is a look at all streams together that finds nothing, of
-    /// a node that is born and can run no line; and says how many. The gate is passed before each, by the turns behind so
-    /// many; and where there are fewer than `most`, before the next one, too, which is to be made by [`Logged::turn`].
+    /// Makes further turns, at most so many, for as long as each is a look at all streams together that finds nothing,
+    /// of a node that is born and can run no line; and says how many. The gate is passed before each, by the turns
+    /// behind so many; and where there are fewer than `most`, before the next one, too, which [`Logged::turn`] makes.
     #[inline(always)]
     pub fn wait<G: Gate>(&mut self, gate: &G, turns: u64, most: u64) -> u64
         ensures { (script : Script) → IsOfScript script self.old → AreIdleTurns script result self.old self.new }
