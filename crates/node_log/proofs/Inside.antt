@@ -253,14 +253,18 @@ waited-turns script (suc count) old none whole waits h =
           (subst (λ w. IfSome w.node IsWaiting) (sym works) waits) (waited-script script count old h);
     }
 
+no-fault : (o : Option LogFault) → o ≡ None → (fault : LogFault) → o ≡ Some fault → ⊥
+no-fault None none fault some = cc
+no-fault (Some x) none fault some = cc
+
 -- noted at once
-pub noted-turns : (script : Script) (count : ℕ) (old : Inside)
-    → ((fault : LogFault) → old.fault ≡ Some fault → ⊥) → IsSome old.works.node → IfSome old.works.node IsWaiting
-    → IsOfScript script (logged_of old)
+pub noted-turns : (script : Script) (count : ℕ) (old : Inside) → old.fault ≡ None → IfSome old.works.node IsWaiting
+    → IsSome old.works.node → IsOfScript script (logged_of old)
     → AreIdleTurns script count (logged_of old)
     (logged_of (record old { silent = old.silent + count; quiet = after_looks count old.quiet }))
-noted-turns script count old none whole waits h =
+noted-turns script count old none waits whole h =
     let sums : count + old.silent ≡ old.silent + count = omega arith in
     let noted : ℕ → Inside = λ silent. record old { silent = silent; quiet = after_looks count old.quiet } in
     subst (λ inside. AreIdleTurns script count (logged_of old) (logged_of inside))
-    (waited-is count old ∙ ap noted sums) (waited-turns script count old none whole waits h)
+    (waited-is count old ∙ ap noted sums)
+    (waited-turns script count old (no-fault old.fault none) whole waits h)

@@ -182,12 +182,10 @@ impl Logged {
 
     /// Makes further turns, at most so many, for as long as each is a look at all streams together that finds nothing,
     /// of a node that is born and can run no line; and says how many. The gate is passed before each, by the turns
-    /// behind so many; and where there are fewer than `most`, before the next one, too, which is to be made by
-    /// [`Logged::turn`].
+    /// behind so many; and where there are fewer than `most`, before the next one, too, which [`Logged::turn`] makes.
     #[inline(always)]
     pub fn wait<G: Gate>(&mut self, gate: &G, turns: u64, most: u64) -> u64
-        ensures turned { (script : Script) → IsOfScript script self.old
-            → AreIdleTurns script result self.old self.new }
+        ensures { (script : Script) → IsOfScript script self.old → AreIdleTurns script result self.old self.new }
     {
         if most > u64::MAX - self.silent || !self.is_waiting() {
             gate.pass(self.works.number, turns.saturating_add(1));

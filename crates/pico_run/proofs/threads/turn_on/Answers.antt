@@ -10,12 +10,14 @@ returns-then-waited-eq-most-clause-turning g c =
 pub turn-requires-clause-script : goal.turn-requires-clause-script
 turn-requires-clause-script g c =
     (turning-idly c.args.script.now c.args.lock.now c.wait.result c.args.logged.now c.wait.new.self
-    c.turns_keep_logs.ensures c.requires.ready (c.wait.ensures c.args.script.now c.requires.ready.of_script)).can_turn.of_script
+    c.turns_keep_logs.ensures c.requires.ready
+    (c.wait.ensures c.args.script.now c.requires.ready.of_script)).can_turn.of_script
 
 pub turn-requires-clause-lock : goal.turn-requires-clause-lock
 turn-requires-clause-lock g c =
     (turning-idly c.args.script.now c.args.lock.now c.wait.result c.args.logged.now c.wait.new.self
-    c.turns_keep_logs.ensures c.requires.ready (c.wait.ensures c.args.script.now c.requires.ready.of_script)).can_turn.lock_is
+    c.turns_keep_logs.ensures c.requires.ready
+    (c.wait.ensures c.args.script.now c.requires.ready.of_script)).can_turn.lock_is
 
 pub returns-in-Did-clause-turning : goal.returns-in-Did-clause-turning
 returns-in-Did-clause-turning g c =
