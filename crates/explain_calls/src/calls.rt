@@ -1,65 +1,78 @@
 //! What is wrong with the words behind a call's name.
 
-use crate::forms::{Form, form_of};
-use crate::names::CallName;
-use crate::needs::Need;
+use crate::forms::Form;
+use crate::needs::{Need, OPERATION};
+use crate::plain::plain_wrong;
 use explain_base::{Fault, Nearest, Page, Piece, Span, Text, Word, Words, Wrong};
-
-// What is wrong with a word, with those that are left behind it, where the call stands.
-fn wrong_word<'a>(
-    need: Need,
-    word: Word<'a>,
-    left: Words<'a>,
-    in_trace: bool,
-) -> Option<Wrong<'a>> {
-    if in_trace {
-        need.wrong_in_trace(word, !left.is_empty())
-    } else {
-        need.wrong(word, !left.is_empty())
-    }
-}
 
 /// The first of the words behind a call's name that isn't in order, from the left; the line ends at that byte.
 pub fn fault_of<'a>(
-    name: CallName,
+    form: &'static Form,
     words: Words<'a>,
     end: usize,
     in_trace: bool,
 ) -> Option<Fault<'a>> {
-    let form = form_of(name, words);
+    let needed = wrong_needed(form, words, end, in_trace);
+    let wrong = needed.or(wrong_behind(form, words.behind(form.needs.len())))?;
+    Some(wrong.fault(form.text, Page::CallLines))
+}
+
+// The first of the words that must be there that isn't in order.
+fn wrong_needed<'a>(
+    form: &'static Form,
+    words: Words<'a>,
+    end: usize,
+    in_trace: bool,
+) -> Option<Wrong<'a>> {
     let mut left = words;
     for need in form.needs {
-        let Some(word) = left.next() else {
-            return Some(lacks(name, *need, form, end));
+        let wrong = match left.next() {
+            Some(word) => wrong_word(*need, word, !left.is_empty(), in_trace),
+            None => Some(lacks(form.call, *need, end)),
         };
-        if let Some(wrong) = wrong_word(*need, word, left, in_trace) {
-            return Some(wrong.fault(form.text, Page::CallLines));
+        if wrong.is_some() {
+            return wrong;
         }
     }
-    if form.is_many {
-        further(left, form)
+    None
+}
+
+// What is wrong with a word where the call stands.
+fn wrong_word(need: Need, word: Word<'_>, is_followed: bool, in_trace: bool) -> Option<Wrong<'_>> {
+    if in_trace {
+        need.wrong_in_trace(word, is_followed)
     } else {
-        excess(name, form, left)
+        need.wrong(word, is_followed)
     }
 }
 
 // A word that must be there isn't.
-fn lacks<'a>(name: CallName, need: Need, form: Form, end: usize) -> Fault<'a> {
+fn lacks<'a>(call: &'static str, need: Need, end: usize) -> Wrong<'a> {
     let what = Text::four(
         Piece::Plain("`"),
-        Piece::Plain(name.text()),
+        Piece::Plain(call),
         Piece::Plain("` lacks "),
-        Piece::Plain(need.called()),
+        Piece::Plain(need.called),
     );
     let span = Span::of(end.saturating_add(1), end.saturating_add(2));
-    Wrong::new(what, Text::plain(need.lacking()), span).fault(form.text, Page::CallLines)
+    Wrong::new(what, Text::plain(need.lacking), span)
+}
+
+// The first word behind those that must be there that isn't in order.
+fn wrong_behind<'a>(form: &'static Form, words: Words<'a>) -> Option<Wrong<'a>> {
+    if form.behind.are_operations {
+        further(words)
+    } else {
+        excess(form, words)
+    }
 }
 
 // The first of the further operations that isn't in order.
-fn further(words: Words<'_>, form: Form) -> Option<Fault<'_>> {
+fn further(words: Words<'_>) -> Option<Wrong<'_>> {
     for word in words {
-        if let Some(wrong) = Need::Operation.wrong(word, false) {
-            return Some(wrong.fault(form.text, Page::CallLines));
+        let wrong = OPERATION.wrong(word, false);
+        if wrong.is_some() {
+            return wrong;
         }
     }
     None
@@ -75,48 +88,53 @@ fn place_of(word: &[u8], flags: &[&str], from: usize) -> Option<usize> {
     None
 }
 
-// The first word behind those that must be there that isn't one of those that may follow, in their order.
-fn excess<'a>(name: CallName, form: Form, words: Words<'a>) -> Option<Fault<'a>> {
+// The first word that isn't one of those that may follow, in their order.
+fn excess<'a>(form: &'static Form, words: Words<'a>) -> Option<Wrong<'a>> {
     let mut from = 0;
     for word in words {
-        match place_of(word.text, form.flags.words(), from) {
+        match place_of(word.text, form.behind.words, from) {
             Some(place) => from = place.saturating_add(1),
-            None => {
-                let wrong = too_much(name, form, word);
-                return Some(wrong.fault(form.text, Page::CallLines));
-            }
+            None => return Some(too_much(form, word)),
         }
     }
     None
 }
 
-fn too_much<'a>(name: CallName, form: Form, word: Word<'a>) -> Wrong<'a> {
-    let flags = form.flags.words();
-    let may = match form.flags.told() {
-        Some(told) => Text::plain(told),
-        None => Text::three(
+// What may follow, or that nothing may.
+fn may<'a>(form: &'static Form) -> Text<'a> {
+    if form.behind.words.is_empty() {
+        Text::three(
             Piece::Plain("`"),
-            Piece::Plain(name.text()),
+            Piece::Plain(form.call),
             Piece::Plain("` ends here"),
-        ),
-    };
-    let plain = Text::said(word.text, " is too much here");
-    if word.text.starts_with(b"#") {
-        Wrong::new(
-            Text::plain("a comment has a line of its own"),
-            Text::plain("the line ends here"),
-            word.span(),
-        )
-    } else if place_of(word.text, flags, 0).is_some() {
-        let what = Text::whole_in("`", word.text, "` stands once, and in its order");
-        Wrong::new(what, may, word.span())
-    } else if word.text.starts_with(b",") {
-        Wrong::new(
-            Text::plain("no blank stands before a comma"),
-            Text::plain("one word"),
-            word.span(),
         )
     } else {
-        Wrong::new(plain, Nearest::told(word.text, flags, may), word.span())
+        Text::plain(form.behind.told)
     }
+}
+
+// What is told of a word that could stand at no line's end, and what is expected.
+fn never_there(text: &[u8]) -> Option<(&'static str, &'static str)> {
+    if text.starts_with(b"#") {
+        Some(("a comment has a line of its own", "the line ends here"))
+    } else if text.starts_with(b",") {
+        Some(("no blank stands before a comma", "one word"))
+    } else {
+        None
+    }
+}
+
+fn too_much<'a>(form: &'static Form, word: Word<'a>) -> Wrong<'a> {
+    if let Some((what, expected)) = never_there(word.text) {
+        return plain_wrong(what, expected, word.span());
+    }
+    let is_flag = place_of(word.text, form.behind.words, 0).is_some();
+    let (what, expected) = if is_flag {
+        let what = Text::whole_in("`", word.text, "` stands once, and in its order");
+        (what, may(form))
+    } else {
+        let near = Nearest::told(word.text, form.behind.words, may(form));
+        (Text::said(word.text, " is too much here"), near)
+    };
+    Wrong::new(what, expected, word.span())
 }

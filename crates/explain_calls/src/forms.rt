@@ -1,182 +1,320 @@
 //! How each call is written.
 
-use crate::names::CallName;
-use crate::needs::Need;
+use crate::needs::{
+    ACTION, BLOCK_NAME, CHILD, INDEX, ITSELF, KEY, MOST_KEPT, MOST_TAKEN, NUMBER, Need, ON_QUEUE,
+    ON_SET, OPERATION, PROCESS, QUEUE, SET, SIGNAL, SIGNAL_ARGUMENT, SIGNALS, TEXT, TYPE, VALUE,
+    VALUES, WAY,
+};
+use crate::plain::text_at;
 use explain_base::Words;
 
-static NO_FLAGS: [&str; 0] = [];
-
-static NOHANG: [&str; 1] = ["nohang"];
-
-static NOWAIT: [&str; 1] = ["nowait"];
-
-static NOERROR_NOWAIT: [&str; 2] = ["noerror", "nowait"];
-
-static CREATE_EXCL: [&str; 2] = ["create", "excl"];
-
-/// The words that may follow those that must be there, in their order.
+/// The words that may follow those that must be there, in their order, and that they may stand there.
 #[derive(Clone, Copy)]
-pub enum Flags {
-    None,
-    Nohang,
-    Nowait,
-    NoerrorNowait,
-    CreateExcl,
+pub struct Behind {
+    pub words: &'static [&'static str],
+    pub told: &'static str,
+    /// Whether further operations may follow in place of such words.
+    pub are_operations: bool,
 }
 
-impl Flags {
-    pub fn words(self) -> &'static [&'static str] {
-        match self {
-            Flags::None => &NO_FLAGS,
-            Flags::Nohang => &NOHANG,
-            Flags::Nowait => &NOWAIT,
-            Flags::NoerrorNowait => &NOERROR_NOWAIT,
-            Flags::CreateExcl => &CREATE_EXCL,
-        }
-    }
+const NOTHING: Behind = Behind {
+    words: &[],
+    told: "",
+    are_operations: false,
+};
 
-    /// That they may stand there.
-    pub fn told(self) -> Option<&'static str> {
-        match self {
-            Flags::None => None,
-            Flags::Nohang => Some("behind it may stand nohang"),
-            Flags::Nowait => Some("behind it may stand nowait"),
-            Flags::NoerrorNowait => Some("behind it may stand noerror and then nowait"),
-            Flags::CreateExcl => Some("behind it may stand create and then excl"),
-        }
-    }
-}
+const NOHANG: Behind = Behind {
+    words: &["nohang"],
+    told: "behind it may stand nohang",
+    are_operations: false,
+};
 
-/// How a call is written: its text, what its words have to be, and the words that may follow. `is_many` says that the
-/// last holds for all words from there on.
+const NOWAIT: Behind = Behind {
+    words: &["nowait"],
+    told: "behind it may stand nowait",
+    are_operations: false,
+};
+
+const NOERROR_NOWAIT: Behind = Behind {
+    words: &["noerror", "nowait"],
+    told: "behind it may stand noerror and then nowait",
+    are_operations: false,
+};
+
+const CREATE_EXCL: Behind = Behind {
+    words: &["create", "excl"],
+    told: "behind it may stand create and then excl",
+    are_operations: false,
+};
+
+const OPERATIONS: Behind = Behind {
+    words: &[],
+    told: "",
+    are_operations: true,
+};
+
+/// How a call is written: its name, its text, what its words have to be, and the words that may follow. A form that a
+/// word behind the name tells from others of that call has this word and its place.
 #[derive(Clone, Copy)]
 pub struct Form {
+    pub call: &'static str,
+    place: usize,
+    word: &'static str,
     pub text: &'static str,
     pub needs: &'static [Need],
-    pub flags: Flags,
-    pub is_many: bool,
+    pub behind: Behind,
 }
+
+// Those that a word tells stand before the others of their call.
+static FORMS: [Form; 29] = [
+    Form {
+        call: "fork",
+        place: 0,
+        word: "",
+        text: "fork NAME",
+        needs: &[BLOCK_NAME],
+        behind: NOTHING,
+    },
+    Form {
+        call: "exit",
+        place: 0,
+        word: "",
+        text: "exit N",
+        needs: &[NUMBER],
+        behind: NOTHING,
+    },
+    Form {
+        call: "getpid",
+        place: 0,
+        word: "",
+        text: "getpid",
+        needs: &[],
+        behind: NOTHING,
+    },
+    Form {
+        call: "kill",
+        place: 0,
+        word: "",
+        text: "kill P G",
+        needs: &[PROCESS, SIGNAL_ARGUMENT],
+        behind: NOTHING,
+    },
+    Form {
+        call: "sigaction",
+        place: 0,
+        word: "",
+        text: "sigaction G A",
+        needs: &[SIGNAL_ARGUMENT, ACTION],
+        behind: NOTHING,
+    },
+    Form {
+        call: "sigprocmask",
+        place: 0,
+        word: "",
+        text: "sigprocmask H M",
+        needs: &[WAY, SIGNALS],
+        behind: NOTHING,
+    },
+    Form {
+        call: "sigpending",
+        place: 0,
+        word: "",
+        text: "sigpending",
+        needs: &[],
+        behind: NOTHING,
+    },
+    Form {
+        call: "handled",
+        place: 0,
+        word: "",
+        text: "handled G",
+        needs: &[SIGNAL],
+        behind: NOTHING,
+    },
+    Form {
+        call: "waitpid",
+        place: 0,
+        word: "",
+        text: "waitpid W [nohang]",
+        needs: &[CHILD],
+        behind: NOHANG,
+    },
+    Form {
+        call: "msgget",
+        place: 0,
+        word: "private",
+        text: "msgget private",
+        needs: &[ITSELF],
+        behind: NOTHING,
+    },
+    Form {
+        call: "msgget",
+        place: 0,
+        word: "",
+        text: "msgget K [create] [excl], msgget private",
+        needs: &[KEY],
+        behind: CREATE_EXCL,
+    },
+    Form {
+        call: "msgsnd",
+        place: 0,
+        word: "",
+        text: "msgsnd Q T X [nowait]",
+        needs: &[QUEUE, TYPE, TEXT],
+        behind: NOWAIT,
+    },
+    Form {
+        call: "msgrcv",
+        place: 0,
+        word: "",
+        text: "msgrcv Q T Z [noerror] [nowait]",
+        needs: &[QUEUE, TYPE, MOST_TAKEN],
+        behind: NOERROR_NOWAIT,
+    },
+    Form {
+        call: "msgctl",
+        place: 1,
+        word: "stat",
+        text: "msgctl Q stat",
+        needs: &[QUEUE, ITSELF],
+        behind: NOTHING,
+    },
+    Form {
+        call: "msgctl",
+        place: 1,
+        word: "set",
+        text: "msgctl Q set B",
+        needs: &[QUEUE, ITSELF, MOST_KEPT],
+        behind: NOTHING,
+    },
+    Form {
+        call: "msgctl",
+        place: 1,
+        word: "rmid",
+        text: "msgctl Q rmid",
+        needs: &[QUEUE, ITSELF],
+        behind: NOTHING,
+    },
+    Form {
+        call: "msgctl",
+        place: 0,
+        word: "",
+        text: "msgctl Q stat | set | rmid",
+        needs: &[QUEUE, ON_QUEUE],
+        behind: NOTHING,
+    },
+    Form {
+        call: "semget",
+        place: 0,
+        word: "private",
+        text: "semget private N",
+        needs: &[ITSELF, NUMBER],
+        behind: NOTHING,
+    },
+    Form {
+        call: "semget",
+        place: 0,
+        word: "",
+        text: "semget K N [create] [excl], semget private N",
+        needs: &[KEY, NUMBER],
+        behind: CREATE_EXCL,
+    },
+    Form {
+        call: "semop",
+        place: 0,
+        word: "",
+        text: "semop S OPS",
+        needs: &[SET, OPERATION],
+        behind: OPERATIONS,
+    },
+    Form {
+        call: "semctl",
+        place: 1,
+        word: "getval",
+        text: "semctl S getval I",
+        needs: &[SET, ITSELF, INDEX],
+        behind: NOTHING,
+    },
+    Form {
+        call: "semctl",
+        place: 1,
+        word: "getpid",
+        text: "semctl S getpid I",
+        needs: &[SET, ITSELF, INDEX],
+        behind: NOTHING,
+    },
+    Form {
+        call: "semctl",
+        place: 1,
+        word: "getncnt",
+        text: "semctl S getncnt I",
+        needs: &[SET, ITSELF, INDEX],
+        behind: NOTHING,
+    },
+    Form {
+        call: "semctl",
+        place: 1,
+        word: "getzcnt",
+        text: "semctl S getzcnt I",
+        needs: &[SET, ITSELF, INDEX],
+        behind: NOTHING,
+    },
+    Form {
+        call: "semctl",
+        place: 1,
+        word: "getall",
+        text: "semctl S getall",
+        needs: &[SET, ITSELF],
+        behind: NOTHING,
+    },
+    Form {
+        call: "semctl",
+        place: 1,
+        word: "setval",
+        text: "semctl S setval I V",
+        needs: &[SET, ITSELF, INDEX, VALUE],
+        behind: NOTHING,
+    },
+    Form {
+        call: "semctl",
+        place: 1,
+        word: "setall",
+        text: "semctl S setall V,V,..",
+        needs: &[SET, ITSELF, VALUES],
+        behind: NOTHING,
+    },
+    Form {
+        call: "semctl",
+        place: 1,
+        word: "rmid",
+        text: "semctl S rmid",
+        needs: &[SET, ITSELF],
+        behind: NOTHING,
+    },
+    Form {
+        call: "semctl",
+        place: 0,
+        word: "",
+        text: "semctl S getval | getpid | getncnt | getzcnt | getall | setval | setall | rmid",
+        needs: &[SET, ON_SET],
+        behind: NOTHING,
+    },
+];
 
 impl Form {
-    fn of(text: &'static str, needs: &'static [Need]) -> Self {
-        Form::with(text, needs, Flags::None)
+    // Whether a call has this form by its name and the words behind it.
+    fn is_of(&self, name: &[u8], words: Words) -> bool {
+        self.call.as_bytes() == name
+            && (self.word.is_empty() || text_at(words, self.place) == self.word.as_bytes())
     }
 
-    fn with(text: &'static str, needs: &'static [Need], flags: Flags) -> Self {
-        Form {
-            text,
-            needs,
-            flags,
-            is_many: false,
+    /// The form of a call by its name and the words behind it; none where this is the name of no call.
+    pub fn of(name: &[u8], words: Words) -> Option<&'static Form> {
+        for form in &FORMS {
+            if form.is_of(name, words) {
+                return Some(form);
+            }
         }
-    }
-}
-
-/// The form that a call has by the words behind its name.
-pub fn form_of(name: CallName, words: Words) -> Form {
-    match name {
-        CallName::Fork => Form::of("fork NAME", &[Need::BlockName]),
-        CallName::Exit => Form::of("exit N", &[Need::Number]),
-        CallName::Getpid => Form::of("getpid", &[]),
-        CallName::Kill => Form::of("kill P G", &[Need::Process, Need::SignalArgument]),
-        CallName::Sigaction => { Form::of("sigaction G A", &[Need::SignalArgument, Need::Action]) }
-        CallName::Sigprocmask => Form::of("sigprocmask H M", &[Need::Way, Need::Signals]),
-        CallName::Sigpending => Form::of("sigpending", &[]),
-        CallName::Handled => Form::of("handled G", &[Need::Signal]),
-        CallName::Waitpid => { Form::with("waitpid W [nohang]", &[Need::Child], Flags::Nohang) }
-        CallName::Msgsnd => Form::with(
-            "msgsnd Q T X [nowait]",
-            &[Need::Queue, Need::Type, Need::Text],
-            Flags::Nowait,
-        ),
-        CallName::Msgrcv => Form::with(
-            "msgrcv Q T Z [noerror] [nowait]",
-            &[Need::Queue, Need::Type, Need::MostTaken],
-            Flags::NoerrorNowait,
-        ),
-        CallName::Semop => Form {
-            text: "semop S OPS",
-            needs: &[Need::Set, Need::Operation],
-            flags: Flags::None,
-            is_many: true,
-        },
-        CallName::Msgget => msgget(words),
-        CallName::Semget => semget(words),
-        CallName::Msgctl => msgctl(words),
-        CallName::Semctl => semctl(words),
-    }
-}
-
-// The text of the word at that place, where there is one.
-fn text_at<'a>(words: Words<'a>, place: usize) -> &'a [u8] {
-    match words.get(place) {
-        Some(word) => word.text,
-        None => &[],
-    }
-}
-
-fn msgget(words: Words) -> Form {
-    if text_at(words, 0) == b"private".as_slice() {
-        Form::of("msgget private", &[Need::Itself])
-    } else {
-        Form::with(
-            "msgget K [create] [excl], msgget private",
-            &[Need::Key],
-            Flags::CreateExcl,
-        )
-    }
-}
-
-fn semget(words: Words) -> Form {
-    if text_at(words, 0) == b"private".as_slice() {
-        Form::of("semget private N", &[Need::Itself, Need::Number])
-    } else {
-        Form::with(
-            "semget K N [create] [excl], semget private N",
-            &[Need::Key, Need::Number],
-            Flags::CreateExcl,
-        )
-    }
-}
-
-fn msgctl(words: Words) -> Form {
-    match text_at(words, 1) {
-        b"stat" => Form::of("msgctl Q stat", &[Need::Queue, Need::Itself]),
-        b"set" => Form::of(
-            "msgctl Q set B",
-            &[Need::Queue, Need::Itself, Need::MostKept],
-        ),
-        b"rmid" => Form::of("msgctl Q rmid", &[Need::Queue, Need::Itself]),
-        // what to do isn't told, or in a word that is none
-        _ => Form::of("msgctl Q stat | set | rmid", &[Need::Queue, Need::OnQueue]),
-    }
-}
-
-fn semctl(words: Words) -> Form {
-    match text_at(words, 1) {
-        b"getval" => Form::of("semctl S getval I", &[Need::Set, Need::Itself, Need::Index]),
-        b"getpid" => Form::of("semctl S getpid I", &[Need::Set, Need::Itself, Need::Index]),
-        b"getncnt" => Form::of(
-            "semctl S getncnt I",
-            &[Need::Set, Need::Itself, Need::Index],
-        ),
-        b"getzcnt" => Form::of(
-            "semctl S getzcnt I",
-            &[Need::Set, Need::Itself, Need::Index],
-        ),
-        b"getall" => Form::of("semctl S getall", &[Need::Set, Need::Itself]),
-        b"setval" => Form::of(
-            "semctl S setval I V",
-            &[Need::Set, Need::Itself, Need::Index, Need::Value],
-        ),
-        b"setall" => Form::of(
-            "semctl S setall V,V,..",
-            &[Need::Set, Need::Itself, Need::Values],
-        ),
-        b"rmid" => Form::of("semctl S rmid", &[Need::Set, Need::Itself]),
-        _ => Form::of(
-            "semctl S getval | getpid | getncnt | getzcnt | getall | setval | setall | rmid",
-            &[Need::Set, Need::OnSet],
-        ),
+        None
     }
 }

@@ -1,52 +1,73 @@
 //! A call line by its words: what stands in front of the call, and the call.
 
-use crate::names::CallName;
-use crate::numbers::{Range, number, variable};
-use explain_base::{Fault, Page, Text, Word, Words, Wrong};
+use crate::lists::is_among;
+use crate::names::is_call;
+use crate::numbers::{Range, count_of, number, variable};
+use crate::plain::{plain_wrong, text_at};
+use explain_base::{Fault, Page, Word, Words, Wrong};
 
 /// How a call line is written.
 pub const FRONT_FORM: &str = "[VAR =] [try N] CALL";
 
-/// The variable that the line sets, the number of its tries, and the words of the call, where they are there. `front`
-/// is what is wrong in front of the call.
+// The calls whose first word may be a variable.
+static USERS: [&str; 7] = [
+    "kill", "waitpid", "msgsnd", "msgrcv", "msgctl", "semop", "semctl",
+];
+
+/// The variable that the line sets, the number of its tries, and the words of the call, where they are there.
 #[derive(Clone, Copy)]
 pub struct Call<'a> {
     pub sets: Option<Word<'a>>,
     pub tries: Option<Word<'a>>,
     pub words: Words<'a>,
-    pub front: Option<Fault<'a>>,
 }
 
-// What is wrong with the number behind the word `try`.
-fn wrong_tries<'a>(word: Word<'a>, tries: Option<Word<'a>>) -> Option<Wrong<'a>> {
-    let lacks = Wrong::new(
-        Text::plain("`try` lacks its number"),
-        Text::plain("a number and a call, as try 20 waitpid any nohang"),
-        word.behind(),
-    );
-    match tries {
-        None => Some(lacks),
-        Some(tries) => {
-            if CallName::of(tries.text).is_some() {
-                Some(lacks)
-            } else {
-                number(tries, Range::of("N", 1, 20000))
-            }
-        }
+// Whether words begin with `VAR =`, by the second one.
+fn is_set(words: Words) -> bool {
+    text_at(words, 1) == b"=".as_slice()
+}
+
+// Whether words begin with `try N`, by the first one.
+fn is_try(words: Words) -> bool {
+    text_at(words, 0) == b"try".as_slice()
+}
+
+// What is wrong with the variable that these words set, if they do.
+fn wrong_variable(words: Words<'_>) -> Option<Wrong<'_>> {
+    if is_set(words) {
+        variable(words.get(0)?)
+    } else {
+        None
     }
 }
 
-// Whether the word at that place is this one.
-fn has_at(words: Words, place: usize, text: &[u8]) -> bool {
-    match words.get(place) {
-        Some(word) => word.text == text,
-        None => false,
+// What is wrong with the number behind the word `try`, if that is there.
+fn wrong_tries(words: Words<'_>) -> Option<Wrong<'_>> {
+    if !is_try(words) {
+        return None;
+    }
+    match words.get(1) {
+        Some(tries) if !is_call(tries.text) => number(tries, Range::of("N", 1, 20000)),
+        _ => Some(plain_wrong(
+            "`try` lacks its number",
+            "a number and a call, as try 20 waitpid any nohang",
+            words.get(0)?.behind(),
+        )),
     }
 }
 
-// What is wrong with the variable that the line sets.
-fn wrong_variable(sets: Option<Word<'_>>) -> Option<Fault<'_>> {
-    let wrong = variable(sets?)?;
+// The words behind `VAR =`, if that is there.
+fn behind_variable(words: Words<'_>) -> Words<'_> {
+    if is_set(words) {
+        words.behind(2)
+    } else {
+        words
+    }
+}
+
+/// What is wrong in front of the call in the line of these words.
+pub fn front_fault(words: Words<'_>) -> Option<Fault<'_>> {
+    let wrong = wrong_variable(words).or(wrong_tries(behind_variable(words)))?;
     Some(wrong.fault(FRONT_FORM, Page::CallLines))
 }
 
@@ -54,52 +75,24 @@ impl<'a> Call<'a> {
     /// The call line of these words. A second word `=` shows that `VAR =` is there, and a word `try` in its place that
     /// `try N` is, as for the reader.
     pub fn of(words: Words<'a>) -> Self {
-        if has_at(words, 1, b"=") {
-            let sets = words.get(0);
-            Call::with(sets, wrong_variable(sets), words.behind(2))
+        let sets = if is_set(words) { words.get(0) } else { None };
+        let behind = behind_variable(words);
+        if is_try(behind) {
+            let tries = behind.get(1);
+            let words = behind.behind(2);
+            Call { sets, tries, words }
         } else {
-            Call::with(None, None, words)
-        }
-    }
-
-    // The call line of these words behind the variable that is set.
-    fn with(sets: Option<Word<'a>>, front: Option<Fault<'a>>, words: Words<'a>) -> Self {
-        match words.get(0) {
-            Some(word) if word.text == b"try".as_slice() => {
-                let tries = words.get(1);
-                let front = match front {
-                    Some(fault) => Some(fault),
-                    None => match wrong_tries(word, tries) {
-                        Some(wrong) => Some(wrong.fault(FRONT_FORM, Page::CallLines)),
-                        None => None,
-                    },
-                };
-                let words = words.behind(2);
-                Call {
-                    sets,
-                    tries,
-                    words,
-                    front,
-                }
-            }
-            _ => {
-                let tries = None;
-                Call {
-                    sets,
-                    tries,
-                    words,
-                    front,
-                }
+            Call {
+                sets,
+                tries: None,
+                words: behind,
             }
         }
     }
 
     /// The first word of the call, its name; nothing where no word is there.
     pub fn name(&self) -> &'a [u8] {
-        match self.words.get(0) {
-            Some(word) => word.text,
-            None => &[],
-        }
+        text_at(self.words, 0)
     }
 
     /// How many calls the line counts for.
@@ -112,16 +105,11 @@ impl<'a> Call<'a> {
 
     /// The variable that the line uses, with its `$`.
     pub fn used(&self) -> Option<Word<'a>> {
-        match self.name() {
-            b"kill" | b"waitpid" | b"msgsnd" | b"msgrcv" | b"msgctl" | b"semop" | b"semctl" => {
-                let word = self.words.get(1)?;
-                if word.text.starts_with(b"$") {
-                    Some(word)
-                } else {
-                    None
-                }
-            }
-            _ => None,
+        let word = self.words.get(1)?;
+        if word.text.starts_with(b"$") && is_among(self.name(), &USERS) {
+            Some(word)
+        } else {
+            None
         }
     }
 
@@ -137,17 +125,9 @@ impl<'a> Call<'a> {
 
 // The number that up to five digits are, or 1.
 fn tries_of(text: &[u8]) -> usize {
-    if text.is_empty() || text.len() > 5 {
-        return 1;
+    if text.len() > 5 {
+        1
+    } else {
+        count_of(text).unwrap_or(1)
     }
-    let mut value = 0usize;
-    for byte in text {
-        if !byte.is_ascii_digit() {
-            return 1;
-        }
-        value = value
-            .saturating_mul(10)
-            .saturating_add(usize::from(byte.saturating_sub(b'0')));
-    }
-    value
 }

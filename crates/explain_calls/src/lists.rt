@@ -1,6 +1,7 @@
 //! What is wrong with values joined by commas, with an operation on a semaphore, and with a word of some.
 
 use crate::numbers::{Range, number};
+use crate::plain::plain_wrong;
 use explain_base::{Nearest, Piece, Text, Word, Wrong};
 
 /// Nothing stands at a comma where something should.
@@ -11,21 +12,20 @@ pub fn lone_comma<'a>(
     example: &'static str,
 ) -> Wrong<'a> {
     let mark = at.saturating_sub(1);
-    let span = word.part(mark, mark.saturating_add(1));
-    let example = Piece::Plain(example);
-    if at == word.text.len() && is_followed {
-        Wrong::new(
-            Text::plain("no blank stands behind a comma"),
-            Text::two(Piece::Plain("one word, as "), example),
-            span,
-        )
+    let (what, front) = if at == word.text.len() && is_followed {
+        ("no blank stands behind a comma", "one word, as ")
     } else {
-        Wrong::new(
-            Text::plain("nothing stands on one side of a comma"),
-            Text::two(Piece::Plain("values on both, as "), example),
-            span,
+        (
+            "nothing stands on one side of a comma",
+            "values on both, as ",
         )
-    }
+    };
+    let expected = Text::two(Piece::Plain(front), Piece::Plain(example));
+    Wrong::new(
+        Text::plain(what),
+        expected,
+        word.part(mark, mark.saturating_add(1)),
+    )
 }
 
 /// Values joined by commas. Whether a further word follows tells of a blank behind a comma.
@@ -76,39 +76,58 @@ fn behind_colons<'a>(word: Word<'a>, tail: Word<'a>) -> Option<Wrong<'a>> {
     } else {
         at
     };
-    Some(Wrong::new(
-        Text::plain("only `nowait` stands behind a second colon"),
-        Text::plain(OPERATION),
-        word.part(from, word.text.len()),
+    let span = word.part(from, word.text.len());
+    Some(plain_wrong(
+        "only `nowait` stands behind a second colon",
+        OPERATION,
+        span,
     ))
+}
+
+// What is wrong behind the first colon.
+fn behind_index<'a>(word: Word<'a>, rest: Word<'a>) -> Option<Wrong<'a>> {
+    let range = Range::of("V", -65535, 65535);
+    match parted(rest, b':') {
+        None => number(rest, range),
+        Some((value, tail)) => number(value, range).or(behind_colons(word, tail)),
+    }
+}
+
+// What is told of a word that has no colon.
+fn no_operation(text: &[u8]) -> Text<'_> {
+    if text == b"nowait".as_slice() {
+        Text::plain("`nowait` belongs to an operation, with no blank before it")
+    } else {
+        Text::said(text, " has no colon")
+    }
 }
 
 /// `I:V` or `I:V:nowait`.
 pub fn operation(word: Word<'_>) -> Option<Wrong<'_>> {
-    let Some((index, rest)) = parted(word, b':') else {
-        let what = if word.text == b"nowait".as_slice() {
-            Text::plain("`nowait` belongs to an operation, with no blank before it")
-        } else {
-            Text::said(word.text, " has no colon")
-        };
-        return Some(Wrong::new(what, Text::plain(OPERATION), word.span()));
-    };
-    let wrong = number(index, Range::of("I", 0, 65535));
-    if wrong.is_some() {
-        return wrong;
+    match parted(word, b':') {
+        Some((index, rest)) => number(index, Range::of("I", 0, 65535)).or(behind_index(word, rest)),
+        None => Some(Wrong::new(no_operation(word.text), Text::plain(OPERATION), word.span())),
     }
-    let range = Range::of("V", -65535, 65535);
-    match parted(rest, b':') {
-        None => number(rest, range),
-        Some((value, tail)) => {
-            let wrong = number(value, range);
-            if wrong.is_some() {
-                wrong
-            } else {
-                behind_colons(word, tail)
-            }
+}
+
+/// Whether bytes are one of these words.
+pub fn is_among(text: &[u8], words: &[&str]) -> bool {
+    for word in words {
+        if word.as_bytes() == text {
+            return true;
         }
     }
+    false
+}
+
+/// The word of these that bytes are but for capitals.
+pub fn but_for_capitals(text: &[u8], words: &'static [&'static str]) -> Option<&'static str> {
+    for word in words {
+        if word.as_bytes().eq_ignore_ascii_case(text) {
+            return Some(word);
+        }
+    }
+    None
 }
 
 /// A word of some, which this text lists.
@@ -117,14 +136,10 @@ pub fn one_of<'a>(
     choices: &'static [&'static str],
     listed: &'static str,
 ) -> Option<Wrong<'a>> {
-    for choice in choices {
-        if choice.as_bytes() == word.text {
-            return None;
-        }
+    if is_among(word.text, choices) {
+        return None;
     }
-    Some(Wrong::new(
-        Text::said(word.text, " is none of the words that may stand here"),
-        Nearest::told(word.text, choices, Text::plain(listed)),
-        word.span(),
-    ))
+    let what = Text::said(word.text, " is none of the words that may stand here");
+    let near = Nearest::told(word.text, choices, Text::plain(listed));
+    Some(Wrong::new(what, near, word.span()))
 }

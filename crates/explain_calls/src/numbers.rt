@@ -1,7 +1,8 @@
 //! What is wrong with a number, a variable, a process's or an object's number, a key and a block's name.
 ghost use Rattle.std.specs.Prelude.{◌≤◌, IsTrue, length};
 
-use explain_base::{Nearest, Piece, Text, Word, Wrong};
+use crate::plain::plain_wrong;
+use explain_base::{Nearest, Piece, Span, Text, Word, Wrong};
 
 /// The greatest number of a process, a queue, a set and a key.
 pub const GREATEST: i64 = 4294967295;
@@ -56,6 +57,20 @@ fn value_of(digits: &[u8]) -> i64 {
     value
 }
 
+/// The number that digits are, as far as it can be counted; none where these aren't digits.
+pub fn count_of(digits: &[u8]) -> Option<usize> {
+    if !are_digits(digits) {
+        return None;
+    }
+    let mut value = 0usize;
+    for digit in digits {
+        value = value
+            .saturating_mul(10)
+            .saturating_add(usize::from(digit.saturating_sub(b'0')));
+    }
+    Some(value)
+}
+
 fn without_sign(bytes: &[u8]) -> &[u8] {
     match bytes {
         [b'-', digits @ ..] => digits,
@@ -63,71 +78,73 @@ fn without_sign(bytes: &[u8]) -> &[u8] {
     }
 }
 
+// What is wrong with the spelling of a number.
+fn misspelled(text: &[u8]) -> Option<Text<'_>> {
+    let digits = without_sign(text);
+    let what = if text.starts_with(b"+") {
+        "a number has no `+`"
+    } else if are_hexadecimal(digits) {
+        "numbers are decimal"
+    } else if text.is_empty() {
+        "a number is lacking"
+    } else if text == b"-0".as_slice() {
+        "0 has no sign"
+    } else {
+        return unlike_digits(text, digits);
+    };
+    Some(Text::plain(what))
+}
+
+// The same of what is told behind the number.
+fn unlike_digits<'a>(text: &'a [u8], digits: &[u8]) -> Option<Text<'a>> {
+    let behind = if !are_digits(digits) {
+        " is no number"
+    } else if digits.len() > 1 && digits.starts_with(b"0") {
+        " begins with a zero, and a number has one spelling"
+    } else {
+        return None;
+    };
+    Some(Text::said(text, behind))
+}
+
+// A variable stands where it can't.
+fn no_variable_here<'a>(word: Word<'a>, range: Range) -> Wrong<'a> {
+    let behind = Piece::Plain("; variables stand for P, Q and S alone");
+    let expected = Text::two(range.piece(), behind);
+    Wrong::new(
+        Text::plain("a variable can't stand here"),
+        expected,
+        word.span(),
+    )
+}
+
 /// A decimal number in its one spelling, of this range.
 pub fn number<'a>(word: Word<'a>, range: Range) -> Option<Wrong<'a>> {
-    let digits = without_sign(word.text);
-    let expected = Text::one(range.piece());
-    let what = if word.text.starts_with(b"$") {
-        let expected = Text::two(
-            range.piece(),
-            Piece::Plain("; variables stand for P, Q and S alone"),
-        );
-        return Some(Wrong::new(
-            Text::plain("a variable can't stand here"),
-            expected,
-            word.span(),
-        ));
-    } else if word.text.starts_with(b"+") {
-        Text::plain("a number has no `+`")
-    } else if are_hexadecimal(digits) {
-        Text::plain("numbers are decimal")
-    } else if word.text.is_empty() {
-        Text::plain("a number is lacking")
-    } else if !are_digits(digits) {
-        Text::said(word.text, " is no number")
-    } else if word.text == b"-0".as_slice() {
-        Text::plain("0 has no sign")
-    } else if digits.len() > 1 && digits.starts_with(b"0") {
-        Text::said(
-            word.text,
-            " begins with a zero, and a number has one spelling",
-        )
-    } else {
-        out_of_range(word, digits, range)?
-    };
-    Some(Wrong::new(what, expected, word.span()))
+    if word.text.starts_with(b"$") {
+        return Some(no_variable_here(word, range));
+    }
+    let what = misspelled(word.text).or(out_of_range(word, range))?;
+    Some(Wrong::new(what, Text::one(range.piece()), word.span()))
 }
 
 // What is told of a number that is too great or too small.
-fn out_of_range<'a>(word: Word<'a>, digits: &'a [u8], range: Range) -> Option<Text<'a>> {
-    let size = value_of(digits);
-    let is_negative = word.text.starts_with(b"-");
-    let value = if is_negative {
+fn out_of_range<'a>(word: Word<'a>, range: Range) -> Option<Text<'a>> {
+    let size = value_of(without_sign(word.text));
+    let value = if word.text.starts_with(b"-") {
         0i64.saturating_sub(size)
     } else {
         size
     };
-    if value > range.high {
-        Some(Text::three(
-            Piece::Cut(word.text),
-            Piece::Plain(" is above "),
-            Piece::Signed(range.high),
-        ))
+    let (first, behind, bound) = if value > range.high {
+        (Piece::Cut(word.text), " is above ", range.high)
     } else if value >= range.low {
-        None
+        return None;
     } else if range.low < 0 || value >= 0 {
-        Some(Text::three(
-            Piece::Cut(word.text),
-            Piece::Plain(" is below "),
-            Piece::Signed(range.low),
-        ))
+        (Piece::Cut(word.text), " is below ", range.low)
     } else {
-        Some(Text::three(
-            Piece::Plain(range.name),
-            Piece::Plain(" isn't below "),
-            Piece::Signed(range.low),
-        ))
-    }
+        (Piece::Plain(range.name), " isn't below ", range.low)
+    };
+    Some(Text::three(first, Piece::Plain(behind), Piece::Signed(bound)))
 }
 
 // A letter and at most two digits.
@@ -156,55 +173,34 @@ pub fn is_variable(name: &[u8]) -> bool {
 
 /// The name of a variable, with no `$`.
 pub fn variable(word: Word<'_>) -> Option<Wrong<'_>> {
-    let name = word.text;
-    let what = if is_variable(name) {
+    if is_variable(word.text) {
         return None;
-    } else if name.starts_with(b"$") {
-        Text::plain("the `$` stands where a variable is used, and not where it is set")
-    } else if has_shape_of_variable(name) {
-        Text::said(name, " has a capital")
+    }
+    let expected = Text::plain(
+        "a variable is a lower-case letter and at most two digits, from a to z99",
+    );
+    Some(Wrong::new(no_variable(word.text), expected, word.span()))
+}
+
+// What is told of bytes that are no variable's name.
+fn no_variable(name: &[u8]) -> Text<'_> {
+    if name.starts_with(b"$") {
+        return Text::plain("the `$` stands where a variable is used, and not where it is set");
+    }
+    let behind = if has_shape_of_variable(name) {
+        " has a capital"
     } else if begins_small(name) && are_digits(behind_first(name)) {
-        Text::said(name, " has more than two digits")
+        " has more than two digits"
     } else {
-        Text::said(name, " is no variable")
+        " is no variable"
     };
-    Some(Wrong::new(
-        what,
-        Text::plain("a variable is a lower-case letter and at most two digits, from a to z99"),
-        word.span(),
-    ))
+    Text::said(name, behind)
 }
 
 fn behind_first(bytes: &[u8]) -> &[u8] {
     match bytes {
         [_, others @ ..] => others,
         [] => &[],
-    }
-}
-
-/// What a number names where a variable may stand for it.
-#[derive(Clone, Copy)]
-pub enum Named {
-    Process,
-    Queue,
-    Set,
-}
-
-impl Named {
-    fn range(self) -> Range {
-        match self {
-            Named::Process => Range::of("P", 1, GREATEST),
-            Named::Queue => Range::of("Q", 0, GREATEST),
-            Named::Set => Range::of("S", 0, GREATEST),
-        }
-    }
-
-    fn expected(self) -> &'static str {
-        match self {
-            Named::Process => "P is a process number from 1 to 4294967295, or a variable as $a",
-            Named::Queue => "Q is an identifier from 0 to 4294967295, or a variable as $q",
-            Named::Set => "S is an identifier from 0 to 4294967295, or a variable as $s",
-        }
     }
 }
 
@@ -224,29 +220,25 @@ fn used(word: Word<'_>) -> Option<Wrong<'_>> {
 }
 
 /// A number, or `$VAR` in its place.
-pub fn numbered<'a>(word: Word<'a>, named: Named) -> Option<Wrong<'a>> {
+pub fn numbered<'a>(word: Word<'a>, range: Range, expected: &'static str) -> Option<Wrong<'a>> {
     if word.text.starts_with(b"$") {
         return used(word);
     }
     let what = if is_variable(word.text) {
         Text::whole_in("a variable is used with a `$`, as $", word.text, "")
     } else {
-        number(word, named.range())?.what
+        number(word, range)?.what
     };
-    Some(Wrong::new(what, Text::plain(named.expected()), word.span()))
+    Some(Wrong::new(what, Text::plain(expected), word.span()))
 }
 
 /// `any`, a process number, or `$VAR`.
-pub fn child(word: Word<'_>) -> Option<Wrong<'_>> {
+pub fn child<'a>(word: Word<'a>, expected: &'static str) -> Option<Wrong<'a>> {
     if word.text == b"any".as_slice() {
         return None;
     }
-    let wrong = numbered(word, Named::Process)?;
-    Some(Wrong::new(
-        wrong.what,
-        Text::plain("W is `any`, a process number from 1 on, or a variable as $a"),
-        word.span(),
-    ))
+    let wrong = numbered(word, Range::of("P", 1, GREATEST), expected)?;
+    Some(Wrong::new(wrong.what, Text::plain(expected), word.span()))
 }
 
 /// A key, or `private` in its place.
@@ -255,20 +247,24 @@ pub fn key(word: Word<'_>) -> Option<Wrong<'_>> {
         return None;
     }
     if word.text == b"0".as_slice() {
-        return Some(Wrong::new(
-            Text::plain("no key is 0"),
-            Text::plain("K is a number from 1 to 4294967295; what has no key is made by `private`"),
+        return Some(plain_wrong(
+            "no key is 0",
+            "K is a number from 1 to 4294967295; what has no key is made by `private`",
             word.span(),
         ));
     }
     let wrong = number(word, Range::of("K", 1, GREATEST))?;
+    Some(Wrong::new(wrong.what, no_key(word.text), word.span()))
+}
+
+// What is expected in the place of bytes that are no key.
+fn no_key(text: &[u8]) -> Text<'_> {
     let plain = Text::plain("K is a number from 1 to 4294967295, or `private` stands there");
-    let expected = if word.text.iter().all(|byte| byte.is_ascii_alphabetic()) {
-        Nearest::told(word.text, &PRIVATE, plain)
+    if text.iter().all(|byte| byte.is_ascii_alphabetic()) {
+        Nearest::told(text, &PRIVATE, plain)
     } else {
         plain
-    };
-    Some(Wrong::new(wrong.what, expected, word.span()))
+    }
 }
 
 // Whether a byte may stand in a block's name behind its first one.
@@ -310,55 +306,63 @@ pub fn size_of_character(first: u8) -> usize {
     }
 }
 
-// The first byte that can't stand in a name, or the first.
-fn stranger(word: Word<'_>) -> Wrong<'_> {
+// How many bytes the first character of these has; 1 where none is there.
+fn size_of_first(bytes: &[u8]) -> usize {
+    match bytes {
+        [first, ..] => size_of_character(*first),
+        [] => 1,
+    }
+}
+
+// The first character that can't stand in a name, or the first, and what is told of it.
+fn stranger(word: Word<'_>) -> (Text<'_>, Span) {
     let at = word
         .text
         .iter()
         .position(|byte| !is_in_name(*byte))
         .unwrap_or(0);
-    let size = match word.text.get(at) {
-        Some(byte) => size_of_character(*byte),
-        None => 1,
-    };
-    let end = at.saturating_add(size);
-    let character = word.text.get(at..end.min(word.text.len())).unwrap_or(&[]);
-    Wrong::new(
-        Text::said(character, " can't stand in a name"),
-        Text::plain(NAME_EXPECTED),
-        word.part(at, end),
-    )
+    let rest = word.text.get(at..).unwrap_or(&[]);
+    let size = size_of_first(rest);
+    let character = rest.get(..size).unwrap_or(rest);
+    let span = word.part(at, at.saturating_add(size));
+    (Text::said(character, " can't stand in a name"), span)
 }
 
 const NAME_EXPECTED: &str =
     "NAME is a lower-case letter and up to 31 lower-case letters, digits or _";
 
-/// The name of a block.
-pub fn block_name(word: Word<'_>) -> Option<Wrong<'_>> {
-    let name = word.text;
-    if is_block_name(name) {
-        return None;
+// What is told of bytes that are no block's name, where it is told of all of them.
+fn no_name(name: &[u8]) -> Option<Text<'_>> {
+    let is_long = name.len() > 32;
+    if !is_long && has_shape_of_name(name) {
+        return Some(Text::said(name, " has a capital"));
     }
-    let expected = Text::plain(NAME_EXPECTED);
-    if name.len() <= 32 && has_shape_of_name(name) {
-        let what = Text::said(name, " has a capital");
-        return Some(Wrong::new(what, expected, word.span()));
-    }
-    let front = name.get(..32).unwrap_or(name);
-    if name.len() > 32 && is_small_name(front) {
-        let what = Text::three(
+    if is_long && is_small_name(name.get(..32).unwrap_or(name)) {
+        return Some(Text::three(
             Piece::Plain("the name has "),
             Piece::Number(name.len()),
             Piece::Plain(" bytes, and 32 is the limit"),
-        );
-        return Some(Wrong::new(what, expected, word.span()));
+        ));
     }
-    match name {
-        [b'0'..=b'9', ..] => Some(Wrong::new(
-            Text::plain("a name begins with a letter"),
-            expected,
-            word.part(0, 1),
-        )),
-        _ => Some(stranger(word)),
+    None
+}
+
+// The first byte of a name that can't stand there, and what is told of it.
+fn wrong_byte(word: Word<'_>) -> (Text<'_>, Span) {
+    match word.text {
+        [b'0'..=b'9', ..] => (Text::plain("a name begins with a letter"), word.part(0, 1)),
+        _ => stranger(word),
     }
+}
+
+/// The name of a block.
+pub fn block_name(word: Word<'_>) -> Option<Wrong<'_>> {
+    if is_block_name(word.text) {
+        return None;
+    }
+    let (what, span) = match no_name(word.text) {
+        Some(what) => (what, word.span()),
+        None => wrong_byte(word),
+    };
+    Some(Wrong::new(what, Text::plain(NAME_EXPECTED), span))
 }

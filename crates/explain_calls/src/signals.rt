@@ -1,6 +1,6 @@
 //! What is wrong with a signal's name, and with a set of them.
 
-use crate::lists::lone_comma;
+use crate::lists::{but_for_capitals, is_among, lone_comma};
 use explain_base::{Piece, Text, Word, Wrong};
 
 /// The names of all signals.
@@ -12,12 +12,7 @@ const ONE_OF: &str = "G is one of HUP, INT, QUIT, KILL, USR1, USR2, PIPE, ALRM, 
 
 // The name of a signal, whatever its letters are.
 fn named(bytes: &[u8]) -> Option<&'static str> {
-    for name in &SIGNALS {
-        if name.as_bytes().eq_ignore_ascii_case(bytes) {
-            return Some(name);
-        }
-    }
-    None
+    but_for_capitals(bytes, &SIGNALS)
 }
 
 // What follows `SIG`, whatever its letters are.
@@ -28,68 +23,71 @@ fn behind_sig(bytes: &[u8]) -> Option<&[u8]> {
     }
 }
 
-// What is wrong with a word that is none of the signals.
+// What is told of a word that is a signal's name but for capitals, or but for SIG before it.
+fn unlike_name(text: &[u8]) -> Option<(&'static str, &'static str)> {
+    match behind_sig(text) {
+        Some(bare) => Some(("a signal's name has no SIG before it", named(bare)?)),
+        None => Some(("a signal's name is in capitals", named(text)?)),
+    }
+}
+
+// What is wrong with a word that is none of the signals; others may stand there, too.
 fn no_signal<'a>(word: Word<'a>, others: &'static str) -> Wrong<'a> {
-    let listed = Text::two(Piece::Plain(ONE_OF), Piece::Plain(others));
-    let bare = behind_sig(word.text).unwrap_or(word.text);
-    if let Some(name) = named(bare) {
-        let what = if behind_sig(word.text).is_some() {
-            Text::plain("a signal's name has no SIG before it")
-        } else {
-            Text::plain("a signal's name is in capitals")
-        };
+    if let Some((what, name)) = unlike_name(word.text) {
         let expected = Text::two(Piece::Plain("G is "), Piece::Plain(name));
-        return Wrong::new(what, expected, word.span());
+        return Wrong::new(Text::plain(what), expected, word.span());
     }
     let what = if word.text.iter().all(|byte| byte.is_ascii_digit()) {
         Text::plain("a signal is named, and has no number here")
     } else {
         Text::said(word.text, " is no signal of this system")
     };
+    let listed = Text::two(Piece::Plain(ONE_OF), Piece::Plain(others));
     Wrong::new(what, listed, word.span())
 }
 
 /// Whether bytes are the name of a signal.
 pub fn is_signal(bytes: &[u8]) -> bool {
-    match named(bytes) {
-        Some(name) => name.as_bytes() == bytes,
-        None => false,
-    }
+    is_among(bytes, &SIGNALS)
 }
 
 /// The name of a signal.
 pub fn signal(word: Word<'_>) -> Option<Wrong<'_>> {
-    if is_signal(word.text) {
+    signal_or(word, &[], "")
+}
+
+/// The name of a signal, or one of the other words, which this text lists.
+pub fn signal_or<'a>(
+    word: Word<'a>,
+    others: &'static [&'static str],
+    listed: &'static str,
+) -> Option<Wrong<'a>> {
+    if is_signal(word.text) || is_among(word.text, others) {
         None
     } else {
-        Some(no_signal(word, ""))
+        Some(no_signal(word, listed))
     }
 }
 
-/// The name of a signal, `0` or `badsig`.
-pub fn signal_argument(word: Word<'_>) -> Option<Wrong<'_>> {
-    if is_signal(word.text) || word.text == b"0".as_slice() || word.text == b"badsig".as_slice() {
-        None
-    } else {
-        Some(no_signal(word, ", `0`, `badsig`"))
-    }
+// Whether a part of a set stands in it before that number of parts.
+fn stands_before(set: &[u8], part: &[u8], number: usize) -> bool {
+    let mut before = set.split(|byte| *byte == b',').take(number);
+    before.any(|it| it == part)
 }
 
 // What is wrong with one signal of a set, which is the word's part of that number.
 fn member<'a>(word: Word<'a>, part: Word<'a>, number: usize) -> Option<Wrong<'a>> {
-    let expected = Text::plain("M is `none`, or different signals joined by commas");
-    if part.text == b"none".as_slice() {
-        return Some(Wrong::new(Text::plain("`none` stands alone"), expected, part.span()));
-    }
-    if let Some(wrong) = signal(part) {
+    let what = if part.text == b"none".as_slice() {
+        Text::plain("`none` stands alone")
+    } else if let Some(wrong) = signal(part) {
         return Some(wrong);
-    }
-    let mut before = word.text.split(|byte| *byte == b',').take(number);
-    if before.any(|it| it == part.text) {
-        let what = Text::whole_in("", part.text, " stands twice");
-        return Some(Wrong::new(what, expected, part.span()));
-    }
-    None
+    } else if stands_before(word.text, part.text, number) {
+        Text::whole_in("", part.text, " stands twice")
+    } else {
+        return None;
+    };
+    let expected = Text::plain("M is `none`, or different signals joined by commas");
+    Some(Wrong::new(what, expected, part.span()))
 }
 
 /// `none`, or different signals joined by commas. Whether a further word follows tells of a blank behind a comma.

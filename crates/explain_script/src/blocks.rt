@@ -1,17 +1,21 @@
 //! Faults of blocks: a `proc` or an `end` that isn't where it should be, and too much of a script.
 ghost use Rattle.std.specs.Prelude.{◌≡◌};
 
-use crate::reading::{Reading, other, word_at};
+use crate::reading::{Block, Reading};
 use crate::refused::Cause;
 use explain_base::{
     Fault, Finding, Line, Nearest, Page, Piece, Span, Text, Word, Wrong, without_blanks,
 };
-use explain_calls::Call;
+use explain_calls::{Call, Told, others, plain_wrong, text_at};
 use std::alloc::Global;
 
 static PROC: [&str; 1] = ["proc"];
 
 const A_BLOCK: &str = "a block: proc main, then a line for each call, then end";
+
+const BEGINS: &str = "a line `proc NAME` begins a block";
+
+const FORM: &str = "proc NAME .. end";
 
 /// A script with no line that has words up to there. Where it has some further down, they are comments.
 pub fn no_line<'a>(alloc: Global, number: usize, has_words: bool) -> Finding<'a>
@@ -28,49 +32,54 @@ pub fn no_line<'a>(alloc: Global, number: usize, has_words: bool) -> Finding<'a>
 
 // What is wrong with a line outside any block, by its first word.
 fn outside(first: Word<'_>) -> Wrong<'_> {
-    let begins = Text::plain("a line `proc NAME` begins a block");
-    if first.text == b"end".as_slice() {
-        Wrong::new(Text::plain("no block is open here"), begins, first.span())
+    let (what, expected) = if first.text == b"end".as_slice() {
+        ("no block is open here", BEGINS)
     } else if first.text.eq_ignore_ascii_case(b"proc") {
-        let what = Text::plain("`proc` is in small letters");
-        Wrong::new(what, Text::plain("proc"), first.span())
+        ("`proc` is in small letters", "proc")
     } else if Nearest::among(first.text, &PROC).is_some() {
         let what = Text::said(first.text, " doesn't begin a block");
-        Wrong::new(what, Text::plain("did you mean proc?"), first.span())
+        return Wrong::new(what, Text::plain("did you mean proc?"), first.span());
     } else {
-        let what = Text::plain("this line stands outside any block");
-        Wrong::new(what, begins, first.span())
+        ("this line stands outside any block", BEGINS)
+    };
+    plain_wrong(what, expected, first.span())
+}
+
+// What is wrong with the first word of a script, where that isn't one at all.
+fn no_word(first: Word<'_>) -> Option<Wrong<'_>> {
+    if first.text.starts_with(b"#") {
+        Some(plain_wrong("the script has comments alone", A_BLOCK, Span::of(0, 0)))
+    } else if first.text.starts_with(b"\xef\xbb\xbf") {
+        let what = "the file begins with a byte order mark";
+        Some(plain_wrong(what, "a file without it", first.part(0, 3)))
+    } else {
+        None
     }
 }
 
 /// A line outside any block.
-pub fn no_proc<'a>(alloc: Global, cause: Cause<'a>, first: Word<'a>) -> Finding<'a>
-    ensures { result.number ≡ Some cause.entry.line.number }
-{
-    if first.text.starts_with(b"#") {
-        let fault = Fault::new(
-            Text::plain("the script has comments alone"),
-            Text::plain(A_BLOCK),
-            Span::of(0, 0),
-            Page::Blocks,
-        );
-        return Finding::at(alloc, cause.line, fault, None);
+pub fn no_proc<'a>(cause: Cause<'a>, first: Word<'a>) -> Told<'a> {
+    match no_word(first) {
+        Some(wrong) => Told::alone(wrong.fault("", Page::Blocks)),
+        None => Told::beside(
+            outside(first).fault(FORM, Page::Blocks),
+            cause.reading.ended,
+            "this block has had its `end`",
+        ),
     }
-    if first.text.starts_with(b"\xef\xbb\xbf") {
-        let fault = Fault::new(
-            Text::plain("the file begins with a byte order mark"),
-            Text::plain("a file without it"),
-            first.part(0, 3),
-            Page::Blocks,
-        );
-        return Finding::at(alloc, cause.line, fault, None);
+}
+
+// What is told of a block that is open where the input ends.
+fn inside<'a>(block: Option<Block<'a>>, ends: &'static str) -> Text<'a> {
+    match block {
+        Some(block) => Text::four(
+            Piece::Plain(ends),
+            Piece::Plain(" of `"),
+            Piece::Whole(block.name),
+            Piece::Plain("`"),
+        ),
+        None => Text::plain(ends),
     }
-    let fault = outside(first).fault("proc NAME .. end", Page::Blocks);
-    let ended = match cause.reading.ended {
-        Some(line) => Some(other(line, Text::plain("this block has had its `end`"))),
-        None => None,
-    };
-    Finding::at(alloc, cause.line, fault, ended)
 }
 
 /// The input ends inside a block.
@@ -87,43 +96,23 @@ pub fn no_end<'a>(
     } else {
         "the script ends inside the block"
     };
-    let (what, begins) = match reading.block {
-        Some(block) => {
-            let line = block.line;
-            let what = Text::four(
-                Piece::Plain(ends),
-                Piece::Plain(" of `"),
-                Piece::Whole(block.name),
-                Piece::Plain("`"),
-            );
-            (what, Some(other(line, Text::plain("begins it"))))
-        }
-        None => (Text::plain(ends), None),
-    };
+    let what = inside(reading.block, ends);
     let expected = Text::plain("a line `end` before this one");
     let mut finding = Finding::without_line(alloc, what, expected, Some(number), Page::Blocks);
-    finding.other = begins;
+    finding.other = others(reading.begun(), "begins it");
     finding
 }
 
 /// A `proc` inside a block.
-pub fn no_end_before<'a>(alloc: Global, cause: Cause<'a>, first: Word<'a>) -> Finding<'a>
-    ensures { result.number ≡ Some cause.entry.line.number }
-{
-    let wrong = Wrong::new(
-        Text::plain("a block begins inside another"),
-        Text::plain("a line `end` before this one"),
-        first.span(),
-    );
-    let begun = match cause.reading.block {
-        Some(block) => {
-            let line = block.line;
-            Some(other(line, Text::plain("this block has had no `end`")))
-        }
-        None => None,
-    };
-    let fault = wrong.fault("proc NAME .. end", Page::Blocks);
-    Finding::at(alloc, cause.line, fault, begun)
+pub fn no_end_before<'a>(cause: Cause<'a>, first: Word<'a>) -> Told<'a> {
+    let what = "a block begins inside another";
+    let wrong = plain_wrong(what, "a line `end` before this one", first.span());
+    let begun = cause.reading.begun();
+    Told::beside(
+        wrong.fault(FORM, Page::Blocks),
+        begun,
+        "this block has had no `end`",
+    )
 }
 
 /// More blocks than a script may have.
@@ -144,16 +133,21 @@ pub fn too_many_blocks<'a>(cause: Cause<'a>) -> Fault<'a> {
 // The most calls of a script.
 const MAX_CALLS: usize = 20000;
 
+// The `exit 0` of a block's end is more than a script may have.
+fn too_many_with_end<'a>(calls: usize, first: Word<'a>) -> Fault<'a> {
+    let what = Text::three(
+        Piece::Plain("the `exit 0` that this `end` stands for is call "),
+        Piece::Grouped(calls.saturating_add(1)),
+        Piece::Plain(", and 20,000 is the limit"),
+    );
+    Fault::new(what, Text::plain("fewer calls"), first.span(), Page::Faults)
+}
+
 /// More calls than a script may have.
 pub fn too_many_calls<'a>(cause: Cause<'a>, first: Word<'a>) -> Fault<'a> {
     let calls = cause.reading.calls;
     if first.text == b"end".as_slice() {
-        let what = Text::three(
-            Piece::Plain("the `exit 0` that this `end` stands for is call "),
-            Piece::Grouped(calls.saturating_add(1)),
-            Piece::Plain(", and 20,000 is the limit"),
-        );
-        return Fault::new(what, Text::plain("fewer calls"), first.span(), Page::Faults);
+        return too_many_with_end(calls, first);
     }
     let call = Call::of(cause.words());
     let tries = if call.tries.is_some() {
@@ -178,21 +172,16 @@ pub fn too_many_calls<'a>(cause: Cause<'a>, first: Word<'a>) -> Fault<'a> {
 
 /// A word behind `end`.
 pub fn bad_end(cause: Cause<'_>) -> Fault<'_> {
-    let second = cause.words().get(1);
-    let is_comment = word_at(cause.words(), 1).starts_with(b"#");
-    let what = if is_comment {
+    let what = if text_at(cause.words(), 1).starts_with(b"#") {
         "a comment has a line of its own"
     } else {
         "a word behind `end`"
     };
-    let span = match second {
+    let span = match cause.words().get(1) {
         Some(word) => cause.words_from(word),
         None => cause.all_words(),
     };
-    Wrong::new(Text::plain(what), Text::plain("the line ends here"), span).fault(
-        "end",
-        Page::Blocks,
-    )
+    plain_wrong(what, "the line ends here", span).fault("end", Page::Blocks)
 }
 
 /// The place behind a line's last word.

@@ -1,28 +1,68 @@
 //! Faults of the words of a line.
-ghost use Rattle.std.specs.Prelude.{◌≡◌};
 
 use crate::blocks::{bad_end, end_of};
-use crate::reading::{line_naming, other, word_at};
+use crate::reading::line_naming;
 use crate::refused::Cause;
-use explain_base::{Fault, Finding, Nearest, Page, Piece, Span, Text, Word, Wrong};
+use explain_base::{Fault, Nearest, Page, Piece, Span, Text, Word, Wrong};
 use explain_calls::{
-    CALL_NAMES, CALLS, Call, CallName, FRONT_FORM, block_name, fault_of, is_variable,
+    CALL_NAMES, CALLS, Call, FRONT_FORM, Form, Told, block_name, but_for_capitals, fault_of,
+    front_fault, is_variable, plain_wrong,
 };
-use std::alloc::Global;
 
-// What people write in place of a call's name, and the call.
+// What people write in place of a call's name, and what is expected there.
+#[derive(Clone, Copy)]
+struct Spoken {
+    written: &'static str,
+    meant: &'static str,
+}
+
+static OTHER_NAMES: [Spoken; 9] = [
+    Spoken {
+        written: "wait",
+        meant: "waitpid any nohang",
+    },
+    Spoken {
+        written: "send",
+        meant: "msgsnd",
+    },
+    Spoken {
+        written: "recv",
+        meant: "msgrcv",
+    },
+    Spoken {
+        written: "receive",
+        meant: "msgrcv",
+    },
+    Spoken {
+        written: "signal",
+        meant: "sigaction",
+    },
+    Spoken {
+        written: "semwait",
+        meant: "semop S I:-1:nowait",
+    },
+    Spoken {
+        written: "sempost",
+        meant: "semop S I:1",
+    },
+    Spoken {
+        written: "print",
+        meant: "a script's calls print nothing; the trace shows each reply",
+    },
+    Spoken {
+        written: "sleep",
+        meant: "a call's name; nothing waits here, and `try N` makes a call again",
+    },
+];
+
+// The call that is meant by a name that is none; nothing where that isn't known.
 fn other_name(text: &[u8]) -> Option<&'static str> {
-    match text {
-        b"wait" => Some("waitpid any nohang"),
-        b"send" => Some("msgsnd"),
-        b"recv" | b"receive" => Some("msgrcv"),
-        b"signal" => Some("sigaction"),
-        b"semwait" => Some("semop S I:-1:nowait"),
-        b"sempost" => Some("semop S I:1"),
-        b"print" => Some("a script's calls print nothing; the trace shows each reply"),
-        b"sleep" => Some("a call's name; nothing waits here, and `try N` makes a call again"),
-        _ => None,
+    for name in &OTHER_NAMES {
+        if name.written.as_bytes() == text {
+            return Some(name.meant);
+        }
     }
+    None
 }
 
 // The parts of a word on either side of its first byte that is this one.
@@ -57,100 +97,88 @@ fn glued(word: Word<'_>) -> Option<Wrong<'_>> {
     ))
 }
 
+// Whether a word is like one that ends a block.
+fn is_like_end(text: &[u8]) -> bool {
+    text == b"end;".as_slice() || text == b"end.".as_slice() || text.eq_ignore_ascii_case(b"end")
+}
+
 // A word that has to do with blocks.
 fn block_word(word: Word<'_>) -> Option<Wrong<'_>> {
+    if is_like_end(word.text) {
+        let what = Text::said(word.text, " doesn't end a block");
+        return Some(Wrong::new(what, Text::plain("end"), word.span()));
+    }
     let (what, expected) = if word.text == b"=".as_slice() {
-        (
-            Text::plain("a variable stands before `=`"),
-            "as q = msgget private",
-        )
-    } else if word.text == b"end;".as_slice()
-        || word.text == b"end.".as_slice()
-        || word.text.eq_ignore_ascii_case(b"end")
-    {
-        (Text::said(word.text, " doesn't end a block"), "end")
+        ("a variable stands before `=`", "as q = msgget private")
     } else if word.text.eq_ignore_ascii_case(b"proc") {
-        (Text::plain("`proc` is in small letters"), "proc")
+        ("`proc` is in small letters", "proc")
     } else if word.text == b"killed".as_slice() {
-        (
-            Text::plain("`killed` stands in traces: it is no call that a script makes"),
-            "kill P G ends another process",
-        )
+        let what = "`killed` stands in traces: it is no call that a script makes";
+        (what, "kill P G ends another process")
     } else {
         return None;
     };
-    Some(Wrong::new(what, Text::plain(expected), word.span()))
+    Some(plain_wrong(what, expected, word.span()))
 }
 
-// The name of a call that is written with capitals.
-fn small_name(text: &[u8]) -> Option<&'static str> {
-    for name in &CALL_NAMES {
-        if name.as_bytes().eq_ignore_ascii_case(text) {
-            return Some(name);
-        }
-    }
-    None
+// A call that is written as in other languages.
+fn with_brackets(word: Word<'_>) -> Option<Wrong<'_>> {
+    let (name, _) = cut(word.text, b'(')?;
+    let otherwise = Nearest::told(word.text, &CALL_NAMES, Text::plain(CALLS));
+    let what = "a call has no brackets: its words stand behind it, with blanks between";
+    let near = Nearest::told(name, &CALL_NAMES, otherwise);
+    Some(Wrong::new(Text::plain(what), near, word.span()))
 }
 
 // A word that is like a call's name.
 fn like_a_call(word: Word<'_>) -> Option<Wrong<'_>> {
-    let is_none = Text::said(word.text, " is no call");
-    if let Some(name) = small_name(word.text) {
-        let what = Text::plain("a call's name is in small letters");
-        return Some(Wrong::new(what, Text::plain(name), word.span()));
+    if let Some(name) = but_for_capitals(word.text, &CALL_NAMES) {
+        return Some(plain_wrong("a call's name is in small letters", name, word.span()));
     }
     if let Some(name) = other_name(word.text) {
+        let is_none = Text::said(word.text, " is no call");
         return Some(Wrong::new(is_none, Text::plain(name), word.span()));
     }
-    let (name, _) = cut(word.text, b'(')?;
-    let otherwise = Nearest::told(word.text, &CALL_NAMES, Text::plain(CALLS));
-    Some(Wrong::new(
-        Text::plain("a call has no brackets: its words stand behind it, with blanks between"),
-        Nearest::told(name, &CALL_NAMES, otherwise),
-        word.span(),
-    ))
+    with_brackets(word)
+}
+
+// A word that is like none; whether it is all that stands there.
+fn unlike_call(word: Word<'_>, is_alone: bool) -> Wrong<'_> {
+    let expected = if is_alone && is_variable(word.text) {
+        Text::plain("VAR = CALL sets a variable, as q = msgget private")
+    } else {
+        Nearest::told(word.text, &CALL_NAMES, Text::plain(CALLS))
+    };
+    Wrong::new(Text::said(word.text, " is no call"), expected, word.span())
 }
 
 /// A word in the place of a call's name that is none.
 pub fn unknown_call<'a>(call: Call<'a>, first: Word<'a>) -> Fault<'a> {
     let word = call.words.get(0).unwrap_or(first);
-    let is_none = Text::said(word.text, " is no call");
-    let wrong = if let Some(wrong) = glued(word) {
-        wrong
-    } else if let Some(wrong) = block_word(word) {
-        wrong
-    } else if let Some(wrong) = like_a_call(word) {
-        wrong
-    } else if is_variable(word.text) && call.words.get(1).is_none() {
-        let expected = Text::plain("VAR = CALL sets a variable, as q = msgget private");
-        Wrong::new(is_none, expected, word.span())
-    } else {
-        let expected = Nearest::told(word.text, &CALL_NAMES, Text::plain(CALLS));
-        Wrong::new(is_none, expected, word.span())
-    };
-    wrong.fault(FRONT_FORM, Page::CallLines)
+    let like = glued(word).or(block_word(word)).or(like_a_call(word));
+    let unlike = unlike_call(word, call.words.get(1).is_none());
+    like.unwrap_or(unlike).fault(FRONT_FORM, Page::CallLines)
 }
 
 /// Words of a line that aren't in order.
-pub fn bad_argument<'a>(alloc: Global, cause: Cause<'a>, first: Word<'a>) -> Finding<'a>
-    ensures { result.number ≡ Some cause.entry.line.number }
-{
-    if first.text == b"proc".as_slice() {
-        return bad_proc(alloc, cause, first);
+pub fn bad_argument<'a>(cause: Cause<'a>, first: Word<'a>) -> Told<'a> {
+    match first.text {
+        b"proc" => bad_proc(cause, first),
+        b"end" => Told::alone(bad_end(cause)),
+        _ => match bad_call(cause, first) {
+            Some(fault) => Told::alone(fault),
+            None => behind_exit(cause, first),
+        },
     }
-    if first.text == b"end".as_slice() {
-        return Finding::at(alloc, cause.line, bad_end(cause), None);
-    }
+}
+
+// What is wrong with a call line by itself.
+fn bad_call<'a>(cause: Cause<'a>, first: Word<'a>) -> Option<Fault<'a>> {
     let call = Call::of(cause.words());
-    if let Some(front) = call.front {
-        return Finding::at(alloc, cause.line, front, None);
-    }
-    let Some(name) = call.words.get(0) else {
-        return Finding::at(alloc, cause.line, no_call(cause), None);
-    };
-    match unlike_form(cause, call, first, name) {
-        Some(fault) => Finding::at(alloc, cause.line, fault, None),
-        None => behind_exit(alloc, cause, name),
+    let front = front_fault(cause.words());
+    match call.words.get(0) {
+        Some(name) => front.or(unlike_form(cause, call, first, name)),
+        None => front.or(Some(no_call(cause))),
     }
 }
 
@@ -158,8 +186,7 @@ pub fn bad_argument<'a>(alloc: Global, cause: Cause<'a>, first: Word<'a>) -> Fin
 fn no_call(cause: Cause<'_>) -> Fault<'_> {
     let end = end_of(cause.line);
     let span = Span::of(end.saturating_add(1), end.saturating_add(2));
-    let what = Text::plain("the line ends before its call");
-    Wrong::new(what, Text::plain(CALLS), span).fault(FRONT_FORM, Page::CallLines)
+    plain_wrong("the line ends before its call", CALLS, span).fault(FRONT_FORM, Page::CallLines)
 }
 
 // What is wrong with a call and what is in front of it.
@@ -169,12 +196,9 @@ fn unlike_form<'a>(
     first: Word<'a>,
     name: Word<'a>,
 ) -> Option<Fault<'a>> {
-    match CallName::of(name.text) {
-        Some(CallName::Fork) if call.tries.is_some() => Some(tried_fork(call, first)),
-        Some(CallName::Exit) if call.tries.is_some() || call.sets.is_some() => {
-            Some(adorned_exit(call, first))
-        }
-        Some(known) => fault_of(known, call.words.behind(1), end_of(cause.line), false),
+    let words = call.words.behind(1);
+    match Form::of(name.text, words) {
+        Some(form) => adorned(call, first).or(fault_of(form, words, end_of(cause.line), false)),
         None => {
             // a call that the program knows and this page doesn't
             let what = Text::said_in("the words behind ", name.text, " aren't those of its form");
@@ -184,63 +208,45 @@ fn unlike_form<'a>(
     }
 }
 
-fn tried_fork<'a>(call: Call<'a>, first: Word<'a>) -> Fault<'a> {
-    let tries = call.tries.unwrap_or(first);
-    Wrong::new(
-        Text::plain("`try` doesn't go with `fork`"),
-        Text::plain("fork NAME by itself"),
-        Span::of(tries.start.saturating_sub(4), tries.end()),
-    )
-    .fault("[VAR =] fork NAME", Page::CallLines)
+// What is in front of a call that goes with nothing there.
+fn adorned<'a>(call: Call<'a>, first: Word<'a>) -> Option<Fault<'a>> {
+    match call.name() {
+        b"fork" => Some(tried_fork(call.tries?)),
+        b"exit" => Some(adorned_exit(call.sets.or(call.tries)?, call.sets.is_some(), first)),
+        _ => None,
+    }
 }
 
-fn adorned_exit<'a>(call: Call<'a>, first: Word<'a>) -> Fault<'a> {
-    let what = if call.sets.is_some() {
+fn tried_fork(tries: Word<'_>) -> Fault<'_> {
+    let span = Span::of(tries.start.saturating_sub(4), tries.end());
+    let wrong = plain_wrong("`try` doesn't go with `fork`", "fork NAME by itself", span);
+    wrong.fault("[VAR =] fork NAME", Page::CallLines)
+}
+
+fn adorned_exit<'a>(last: Word<'a>, is_set: bool, first: Word<'a>) -> Fault<'a> {
+    let what = if is_set {
         "`VAR =` doesn't go with `exit`, which has no reply"
     } else {
         "`try` doesn't go with `exit`, which has no reply"
     };
-    let last = call.sets.or(call.tries).unwrap_or(first);
-    Wrong::new(
-        Text::plain(what),
-        Text::plain("exit N by itself"),
-        Span::of(first.start, last.end()),
-    )
-    .fault("exit N", Page::CallLines)
+    let wrong = plain_wrong(what, "exit N by itself", Span::of(first.start, last.end()));
+    wrong.fault("exit N", Page::CallLines)
 }
 
 // A call behind the block's `exit`.
-fn behind_exit<'a>(alloc: Global, cause: Cause<'a>, name: Word<'a>) -> Finding<'a>
-    ensures { result.number ≡ Some cause.entry.line.number }
-{
-    let fault = Fault::new(
-        Text::plain("no call stands behind `exit` in its block"),
-        Text::plain("a line `end`"),
-        Span::of(name.start, cause.end()),
-        Page::Blocks,
-    );
-    let exit = match cause.reading.block {
-        Some(block) => match block.exit {
-            Some(line) => Some(other(line, Text::plain("ends the process"))),
-            None => None,
-        },
-        None => None,
-    };
-    Finding::at(alloc, cause.line, fault, exit)
+fn behind_exit<'a>(cause: Cause<'a>, first: Word<'a>) -> Told<'a> {
+    let name = Call::of(cause.words()).words.get(0).unwrap_or(first);
+    let what = "no call stands behind `exit` in its block";
+    let wrong = plain_wrong(what, "a line `end`", Span::of(name.start, cause.end()));
+    Told::beside(
+        wrong.fault("", Page::Blocks),
+        cause.reading.exit(),
+        "ends the process",
+    )
 }
 
-// What is wrong with the words of a line `proc`, if it isn't that another block has the name.
-fn wrong_proc<'a>(cause: Cause<'a>, first: Word<'a>) -> Option<Wrong<'a>> {
-    let Some(name) = cause.words().get(1) else {
-        return Some(Wrong::new(
-            Text::plain("`proc` lacks the name of its block"),
-            Text::plain("a name, as main"),
-            first.behind(),
-        ));
-    };
-    if let Some(wrong) = block_name(name) {
-        return Some(wrong);
-    }
+// A word behind the name of a block.
+fn behind_name<'a>(cause: Cause<'a>) -> Option<Wrong<'a>> {
     let third = cause.words().get(2)?;
     let what = if third.text.starts_with(b"#") {
         Text::plain("a comment has a line of its own")
@@ -254,25 +260,30 @@ fn wrong_proc<'a>(cause: Cause<'a>, first: Word<'a>) -> Option<Wrong<'a>> {
     ))
 }
 
-fn bad_proc<'a>(alloc: Global, cause: Cause<'a>, first: Word<'a>) -> Finding<'a>
-    ensures { result.number ≡ Some cause.entry.line.number }
-{
+// What is wrong with the words of a line `proc`, if it isn't that another block has the name.
+fn wrong_proc<'a>(cause: Cause<'a>, first: Word<'a>) -> Option<Wrong<'a>> {
+    match cause.words().get(1) {
+        Some(name) => block_name(name).or(behind_name(cause)),
+        None => {
+            let what = "`proc` lacks the name of its block";
+            Some(plain_wrong(what, "a name, as main", first.behind()))
+        }
+    }
+}
+
+// Another block has the name.
+fn second_name<'a>(name: Word<'a>) -> Wrong<'a> {
+    let what = Text::said_in("a second block has the name ", name.text, "");
+    Wrong::new(what, Text::plain("another name"), name.span())
+}
+
+fn bad_proc<'a>(cause: Cause<'a>, first: Word<'a>) -> Told<'a> {
     if let Some(wrong) = wrong_proc(cause, first) {
-        let fault = wrong.fault("proc NAME", Page::Blocks);
-        return Finding::at(alloc, cause.line, fault, None);
+        return Told::alone(wrong.fault("proc NAME", Page::Blocks));
     }
     let name = cause.words().get(1).unwrap_or(first);
-    let wrong = Wrong::new(
-        Text::said_in("a second block has the name ", name.text, ""),
-        Text::plain("another name"),
-        name.span(),
-    );
-    let has = match line_naming(cause.script, name.text) {
-        Some(line) => Some(other(line, Text::plain("has it first"))),
-        None => None,
-    };
-    let fault = wrong.fault("proc NAME", Page::Blocks);
-    Finding::at(alloc, cause.line, fault, has)
+    let fault = second_name(name).fault("proc NAME", Page::Blocks);
+    Told::beside(fault, line_naming(cause.script, name.text), "has it first")
 }
 
 // The first operation of a `semop` that may have to wait.
@@ -289,20 +300,15 @@ fn waiting_operation(call: Call<'_>) -> Option<Word<'_>> {
     None
 }
 
-/// A call that may have to wait.
-pub fn waiting_form<'a>(cause: Cause<'a>) -> Fault<'a> {
-    let call = Call::of(cause.words());
-    let name = call.name();
-    if name == b"semop".as_slice()
-        && let Some(word) = waiting_operation(call)
-    {
-        let wrong = Wrong::new(
-            Text::plain("this operation may have to wait, and no caller waits yet"),
-            Text::whole_in("", word.text, ":nowait"),
-            word.span(),
-        );
-        return wrong.fault("semop S I:V:nowait", Page::Faults);
-    }
+// A `semop` with an operation that may have to wait.
+fn waiting_semop(word: Word<'_>) -> Fault<'_> {
+    let what = Text::plain("this operation may have to wait, and no caller waits yet");
+    let expected = Text::whole_in("", word.text, ":nowait");
+    Wrong::new(what, expected, word.span()).fault("semop S I:V:nowait", Page::Faults)
+}
+
+// Another call that may have to wait, of this name.
+fn waiting_call<'a>(name: &'a [u8], end: usize) -> Fault<'a> {
     let (expected, behind) = if name == b"waitpid".as_slice() {
         (
             "`nohang` at the line's end; `try N` before the call makes it again",
@@ -314,11 +320,20 @@ pub fn waiting_form<'a>(cause: Cause<'a>) -> Fault<'a> {
             " .. nowait",
         )
     };
-    let at = end_of(cause.line).saturating_add(1);
-    let what = Text::plain("this call may have to wait, and no caller waits yet");
-    let span = Span::of(at, at.saturating_add(6));
-    let wrong = Wrong::new(what, Text::plain(expected), span);
-    let form = Text::whole_in("", name, behind);
-    let page = Page::Faults;
-    Fault { wrong, form, page }
+    let what = "this call may have to wait, and no caller waits yet";
+    let at = end.saturating_add(1);
+    Fault {
+        wrong: plain_wrong(what, expected, Span::of(at, at.saturating_add(6))),
+        form: Text::whole_in("", name, behind),
+        page: Page::Faults,
+    }
+}
+
+/// A call that may have to wait.
+pub fn waiting_form<'a>(cause: Cause<'a>) -> Fault<'a> {
+    let call = Call::of(cause.words());
+    match waiting_operation(call) {
+        Some(word) if call.name() == b"semop".as_slice() => waiting_semop(word),
+        _ => waiting_call(call.name(), end_of(cause.line)),
+    }
 }

@@ -1,7 +1,7 @@
 //! What the lines before a fault say: the block that is open, how many blocks and calls there are, and who forks whom.
 
-use explain_base::{Line, Lines, Other, Text, Words};
-use explain_calls::{Call, is_block_name};
+use explain_base::{Line, Lines, Words};
+use explain_calls::{Call, is_block_name, text_at};
 
 /// A block that is open: its name, the line of its `proc`, and its line `exit` where it has had one.
 #[derive(Clone, Copy)]
@@ -21,26 +21,9 @@ pub struct Reading<'a> {
     pub calls: usize,
 }
 
-/// A line that helps, and what it tells.
-pub fn other<'a>(line: Line<'a>, what: Text<'a>) -> Other<'a> {
-    Other {
-        number: line.number,
-        line: line.text,
-        what,
-    }
-}
-
 /// The first word of a line; nothing where it has none.
 pub fn first_word(line: Line<'_>) -> &[u8] {
-    word_at(Words::of(line.text), 0)
-}
-
-/// The word at that place; nothing where none is there.
-pub fn word_at(words: Words<'_>, place: usize) -> &[u8] {
-    match words.get(place) {
-        Some(word) => word.text,
-        None => &[],
-    }
+    text_at(Words::of(line.text), 0)
 }
 
 impl<'a> Reading<'a> {
@@ -65,6 +48,16 @@ impl<'a> Reading<'a> {
         reading
     }
 
+    /// The line `exit` of the block that is open, where it has had one.
+    pub fn exit(&self) -> Option<Line<'a>> {
+        self.block?.exit
+    }
+
+    /// The line of the `proc` of the block that is open.
+    pub fn begun(&self) -> Option<Line<'a>> {
+        Some(self.block?.line)
+    }
+
     fn read(&mut self, line: Line<'a>) {
         match first_word(line) {
             b"proc" => self.begin(line),
@@ -76,7 +69,7 @@ impl<'a> Reading<'a> {
 
     fn begin(&mut self, line: Line<'a>) {
         self.blocks = self.blocks.saturating_add(1);
-        let name = word_at(Words::of(line.text), 1);
+        let name = text_at(Words::of(line.text), 1);
         let exit = None;
         let block = Block { name, line, exit };
         self.block = Some(block);
@@ -126,10 +119,10 @@ pub fn line_naming<'a>(script: &'a [u8], name: &[u8]) -> Option<Line<'a>> {
 /// The name that a line gives a block, where it is a line `proc NAME`.
 pub fn named_by(line: Line<'_>) -> Option<&[u8]> {
     let words = Words::of(line.text);
-    if word_at(words, 0) != b"proc".as_slice() || words.get(2).is_some() {
+    if text_at(words, 0) != b"proc".as_slice() || words.get(2).is_some() {
         return None;
     }
-    let name = word_at(words, 1);
+    let name = text_at(words, 1);
     if is_block_name(name) {
         Some(name)
     } else {

@@ -7,8 +7,8 @@ use crate::forks::{fork_backwards, forked_twice, never_forked, unknown_proc};
 use crate::reading::{Reading, first_word};
 use crate::variables::unset_variable;
 use crate::whole::{line_too_long, not_utf8, script_too_long};
-use explain_base::{Fault, Finding, Line, Lines, Other, Page, Piece, Span, Text, Word, Words};
-use explain_calls::Call;
+use explain_base::{Finding, Line, Lines, Page, Span, Text, Word, Words};
+use explain_calls::{Call, Told};
 use std::alloc::{AllocError, Global};
 
 /// A line that is at fault, the script that it stands in, and what the lines before it say.
@@ -33,6 +33,11 @@ impl<'a> Cause<'a> {
         }
     }
 
+    /// The word behind the call's name, which names a block where the call is a fork.
+    pub fn forked(&self) -> Option<Word<'a>> {
+        Call::of(self.words()).words.get(1)
+    }
+
     /// The line from this word on.
     pub fn words_from(&self, word: Word<'a>) -> Span {
         Span::of(word.start, self.end())
@@ -55,7 +60,45 @@ fn unknown<'a>(alloc: Global, number: usize, name: &'a [u8]) -> Finding<'a>
     Finding::without_line(alloc, what, Text::none(), Some(number), Page::Faults)
 }
 
-// What is told of a line with words, by the fault's name.
+// What is told of a line with words, by the fault's name; none where nothing is known of it.
+fn told_of<'a>(cause: Cause<'a>, first: Word<'a>, name: &'a [u8]) -> Option<Told<'a>> {
+    of_blocks(cause, first, name)
+        .or(of_call(cause, first, name))
+        .or(of_fork(cause, name))
+}
+
+// The same of a block, and of too much of a script.
+fn of_blocks<'a>(cause: Cause<'a>, first: Word<'a>, name: &'a [u8]) -> Option<Told<'a>> {
+    match name {
+        b"NoProc" => Some(no_proc(cause, first)),
+        b"NoEnd" => Some(no_end_before(cause, first)),
+        b"TooManyProcs" => Some(Told::alone(too_many_blocks(cause))),
+        b"TooManyCalls" => Some(Told::alone(too_many_calls(cause, first))),
+        _ => None,
+    }
+}
+
+// The same of a call's words.
+fn of_call<'a>(cause: Cause<'a>, first: Word<'a>, name: &'a [u8]) -> Option<Told<'a>> {
+    match name {
+        b"UnknownCall" => Some(Told::alone(unknown_call(Call::of(cause.words()), first))),
+        b"BadArgument" => Some(bad_argument(cause, first)),
+        b"WaitingForm" => Some(Told::alone(waiting_form(cause))),
+        _ => None,
+    }
+}
+
+// The same of a fork or a block that is forked.
+fn of_fork<'a>(cause: Cause<'a>, name: &'a [u8]) -> Option<Told<'a>> {
+    match name {
+        b"ForkedTwice" => Some(forked_twice(cause, cause.forked()?)),
+        b"ForkBackwards" => Some(fork_backwards(cause, cause.forked()?)),
+        b"NeverForked" => Some(never_forked(cause, cause.words().get(1)?)),
+        _ => None,
+    }
+}
+
+// What is told of a line with words, where names may be told besides.
 fn of_words<'a>(
     alloc: Global,
     cause: Cause<'a>,
@@ -64,37 +107,17 @@ fn of_words<'a>(
 ) -> Result<Finding<'a>, AllocError>
     ensures { IfOk result (λ finding. finding.number ≡ Some cause.entry.line.number) }
 {
-    let call = Call::of(cause.words());
-    let line = cause.line;
-    Ok(match name {
-        b"NoProc" => no_proc(alloc, cause, first),
-        b"NoEnd" => no_end_before(alloc, cause, first),
-        b"UnknownCall" => Finding::at(alloc, line, unknown_call(call, first), None),
-        b"BadArgument" => bad_argument(alloc, cause, first),
-        b"UnsetVariable" => unset_variable(alloc, cause)?,
-        b"TooManyProcs" => Finding::at(alloc, line, too_many_blocks(cause), None),
-        b"TooManyCalls" => Finding::at(alloc, line, too_many_calls(cause, first), None),
-        b"WaitingForm" => Finding::at(alloc, line, waiting_form(cause), None),
-        _ => of_fork(alloc, cause, call, name)?,
-    })
-}
-
-// The same of a fork or a block that is forked.
-fn of_fork<'a>(
-    alloc: Global,
-    cause: Cause<'a>,
-    call: Call<'a>,
-    name: &'a [u8],
-) -> Result<Finding<'a>, AllocError>
-    ensures { IfOk result (λ finding. finding.number ≡ Some cause.entry.line.number) }
-{
-    let (forked, begun) = (call.words.get(1), cause.words().get(1));
-    match (name, forked, begun) {
-        (b"UnknownProc", Some(word), _) => unknown_proc(alloc, cause, word),
-        (b"ForkedTwice", Some(word), _) => Ok(forked_twice(alloc, cause, word)),
-        (b"ForkBackwards", Some(word), _) => Ok(fork_backwards(alloc, cause, word)),
-        (b"NeverForked", _, Some(word)) => Ok(never_forked(alloc, cause, word)),
-        _ => Ok(unknown(alloc, cause.line.number, name)),
+    if name == b"UnsetVariable".as_slice() {
+        return unset_variable(alloc, cause);
+    }
+    if name == b"UnknownProc".as_slice()
+        && let Some(word) = cause.forked()
+    {
+        return unknown_proc(alloc, cause, word);
+    }
+    match told_of(cause, first, name) {
+        Some(told) => Ok(Finding::at(alloc, cause.line, told.fault, told.other)),
+        None => Ok(unknown(alloc, cause.line.number, name)),
     }
 }
 

@@ -1,10 +1,10 @@
 //! A use of a variable that nothing has set.
 ghost use Rattle.std.specs.Prelude.{◌≡◌, IfOk};
 
-use crate::reading::{first_word, fork_before, other};
+use crate::reading::{first_word, fork_before};
 use crate::refused::Cause;
 use explain_base::{Fault, Finding, Line, Lines, Other, Page, Piece, Text, Word, Words};
-use explain_calls::Call;
+use explain_calls::{Call, Told, other, plain_wrong, text_at};
 use std::alloc::{AllocError, Global};
 
 // The most blocks of a script, and so the most that begin with what another had set.
@@ -12,10 +12,7 @@ const MAX_BLOCKS: usize = 32;
 
 // The variable that a line sets.
 fn set_by(line: Line<'_>) -> Option<&[u8]> {
-    match Call::of(Words::of(line.text)).sets {
-        Some(word) => Some(word.text),
-        None => None,
-    }
+    Some(Call::of(Words::of(line.text)).sets?.text)
 }
 
 // Adds a name, where it isn't there yet.
@@ -68,11 +65,7 @@ fn known<'a>(alloc: Global, script: &'a [u8], number: usize) -> Result<Vec<&'a [
             break;
         };
         add_set_between(script, begin.number, to, &mut names)?;
-        let mut words = Words::of(begin.text);
-        let name = match words.nth(1) {
-            Some(word) => word.text,
-            None => &[],
-        };
+        let name = text_at(Words::of(begin.text), 1);
         let Some(fork) = fork_before(script, name, begin.number, true) else {
             break;
         };
@@ -96,28 +89,31 @@ fn elsewhere<'a>(cause: Cause<'a>, name: &[u8]) -> Option<Line<'a>> {
     None
 }
 
+// Why a line that sets the variable doesn't count for one of a block that begins behind it.
+fn why_not<'a>(fork: Option<Line<'a>>, line: Line<'a>) -> Text<'a> {
+    match fork {
+        Some(fork) if fork.number < line.number => Text::three(
+            Piece::Plain("sets it, behind line "),
+            Piece::Number(fork.number),
+            Piece::Plain(
+                ", which forks this block; a child begins with what was set before its fork",
+            ),
+        ),
+        _ => Text::plain("sets it, in another block"),
+    }
+}
+
 // A line that sets the variable where that doesn't count, and why it doesn't.
 fn set_elsewhere<'a>(cause: Cause<'a>, line: Line<'a>) -> Other<'a> {
-    let Some(block) = cause.reading.block else {
-        return other(line, Text::none());
-    };
-    let begin = block.line;
-    if line.number >= begin.number {
-        return other(line, Text::plain("sets it, and stands below"));
-    }
-    match fork_before(cause.script, block.name, cause.line.number, false) {
-        Some(fork) if fork.number < line.number => {
-            let what = Text::three(
-                Piece::Plain("sets it, behind line "),
-                Piece::Number(fork.number),
-                Piece::Plain(
-                    ", which forks this block; a child begins with what was set before its fork",
-                ),
-            );
-            other(line, what)
+    let what = match cause.reading.block {
+        None => Text::none(),
+        Some(block) if line.number >= block.line.number => Text::plain("sets it, and stands below"),
+        Some(block) => {
+            let fork = fork_before(cause.script, block.name, cause.line.number, false);
+            why_not(fork, line)
         }
-        _ => other(line, Text::plain("sets it, in another block")),
-    }
+    };
+    other(line, what)
 }
 
 /// A use of a variable that nothing has set.
@@ -127,15 +123,46 @@ pub fn unset_variable<'a>(alloc: Global, cause: Cause<'a>) -> Result<Finding<'a>
     let call = Call::of(cause.words());
     match call.used() {
         Some(word) if cause.reading.block.is_some() => unset(alloc, cause, call, word),
-        _ => {
-            let fault = Fault::new(
-                Text::plain("a variable that isn't set"),
-                Text::plain("a line before this one sets it"),
-                cause.all_words(),
-                Page::CallLines,
-            );
-            Ok(Finding::at(alloc, cause.line, fault, None))
+        _ => Ok(Finding::at(alloc, cause.line, unset_somewhere(cause), None)),
+    }
+}
+
+// Which variable isn't set was not found.
+fn unset_somewhere(cause: Cause<'_>) -> Fault<'_> {
+    let what = "a variable that isn't set";
+    let expected = "a line before this one sets it";
+    plain_wrong(what, expected, cause.all_words()).fault("", Page::CallLines)
+}
+
+// The name of a variable without its `$`.
+fn name_of<'a>(text: &'a [u8]) -> &'a [u8] {
+    match text {
+        [_, name @ ..] => name,
+        [] => &[],
+    }
+}
+
+// What is told of the variable, where some that are set are told behind it, or none.
+fn told_of<'a>(cause: Cause<'a>, word: Word<'a>, sets_itself: bool, are_some: bool) -> Told<'a> {
+    let name = name_of(word.text);
+    let before = if are_some {
+        " = CALL` before this one; set are "
+    } else {
+        " = CALL` before this one"
+    };
+    let expected = if sets_itself {
+        Text::plain("the line itself sets it, and that is too late for its own call")
+    } else {
+        Text::whole_in("a line `", name, before)
+    };
+    let what = Text::whole_in("nothing has set ", word.text, " in this block");
+    let fault = Fault::new(what, expected, word.span(), Page::Faults);
+    match elsewhere(cause, name) {
+        Some(line) => {
+            let other = Some(set_elsewhere(cause, line));
+            Told { fault, other }
         }
+        None => Told::alone(fault),
     }
 }
 
@@ -147,12 +174,8 @@ fn unset<'a>(
 ) -> Result<Finding<'a>, AllocError>
     ensures { IfOk result (λ finding. finding.number ≡ Some cause.entry.line.number) }
 {
-    let name: &'a [u8] = match word.text {
-        [_, name @ ..] => name,
-        [] => &[],
-    };
     let sets_itself = match call.sets {
-        Some(sets) => sets.text == name,
+        Some(sets) => sets.text == name_of(word.text),
         None => false,
     };
     let names = if sets_itself {
@@ -160,23 +183,8 @@ fn unset<'a>(
     } else {
         known(alloc, cause.script, cause.line.number)?
     };
-    let before = if names.is_empty() {
-        " = CALL` before this one"
-    } else {
-        " = CALL` before this one; set are "
-    };
-    let expected = if sets_itself {
-        Text::plain("the line itself sets it, and that is too late for its own call")
-    } else {
-        Text::whole_in("a line `", name, before)
-    };
-    let what = Text::whole_in("nothing has set ", word.text, " in this block");
-    let fault = Fault::new(what, expected, word.span(), Page::Faults);
-    let line = match elsewhere(cause, name) {
-        Some(line) => Some(set_elsewhere(cause, line)),
-        None => None,
-    };
-    let mut finding = Finding::at(alloc, cause.line, fault, line);
+    let told = told_of(cause, word, sets_itself, !names.is_empty());
+    let mut finding = Finding::at(alloc, cause.line, told.fault, told.other);
     finding.names = names;
     Ok(finding)
 }

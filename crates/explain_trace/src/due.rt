@@ -1,12 +1,12 @@
 //! What is told of a call or a reply that isn't the script's or the kernel's.
 ghost use Rattle.std.specs.Prelude.{◌≡◌, IfOk};
 
-use crate::entry::{Entry, entry_of, sign_in, span_of, text_at, text_of_words};
+use crate::entry::{Entry, entry_of, sign_in, span_of, text_of_words};
 use crate::errors::meaning;
 use crate::judged::Judged;
 use crate::walk::{Process, Walk};
 use explain_base::{Fault, Finding, Line, Other, Page, Piece, Span, Text, Words};
-use explain_calls::Call;
+use explain_calls::{Call, Told, others, text_at};
 use std::alloc::{AllocError, Global};
 
 // The place of bytes in others, the first one.
@@ -17,25 +17,23 @@ fn place_of(bytes: &[u8], part: &[u8]) -> Option<usize> {
     })
 }
 
-// What stands before a mark that these words follow to the end; or else what stands before the first such mark.
-fn before_mark<'a>(told: &'a [u8], mark: &[u8], words: &[u8]) -> &'a [u8] {
-    let size = told
-        .len()
-        .saturating_sub(mark.len())
-        .saturating_sub(words.len());
-    let front = told.get(..size).unwrap_or(told);
-    let is_it = told.ends_with(words)
-        && told
-            .get(..told.len().saturating_sub(words.len()))
-            .unwrap_or(told)
-            .ends_with(mark);
-    if is_it && !front.is_empty() {
-        return front;
-    }
+// What stands before the first such mark; all where there is none.
+fn before_first<'a>(told: &'a [u8], mark: &[u8]) -> &'a [u8] {
     match place_of(told, mark) {
         Some(place) => told.get(..place).unwrap_or(told),
         None => told,
     }
+}
+
+// What stands before a mark that these words follow to the end; none where they don't, or nothing stands there.
+fn before_words<'a>(told: &'a [u8], mark: &[u8], words: &[u8]) -> Option<&'a [u8]> {
+    let front = told.strip_suffix(words)?.strip_suffix(mark)?;
+    if front.is_empty() { None } else { Some(front) }
+}
+
+// What stands before a mark that these words follow to the end; or else what stands before the first such mark.
+fn before_mark<'a>(told: &'a [u8], mark: &[u8], words: &[u8]) -> &'a [u8] {
+    before_words(told, mark, words).unwrap_or(before_first(told, mark))
 }
 
 // The bytes of the line's call, or the whole line.
@@ -76,14 +74,21 @@ pub fn another_call<'a>(
         Some(entry) => entry.pid,
         None => walk.first_living(),
     };
-    let process = walk.process(pid);
-    if due == b"nothing".as_slice() {
-        return Ok(no_call_left(alloc, judged, pid, process));
-    }
-    if due.starts_with(b"killed ") {
-        return Ok(Finding::at(alloc, line, killed(line, pid, due), None));
-    }
-    let what = if entry.is_some() {
+    let told = if due == b"nothing".as_slice() {
+        no_call_left(judged, pid, walk.process(pid))
+    } else if due.starts_with(b"killed ") {
+        Told::alone(killed(line.text, pid, due))
+    } else {
+        let fault = call_left(line.text, entry.is_some(), pid, due);
+        let other = line_due(walk.line_due(pid), due);
+        Told { fault, other }
+    };
+    Ok(Finding::at(alloc, line, told.fault, told.other))
+}
+
+// A process has another call left than that of a line, or of none.
+fn call_left<'a>(line: &'a [u8], is_line: bool, pid: &'a [u8], due: &'a [u8]) -> Fault<'a> {
+    let what = if is_line {
         Text::whole_in("the script has another call here for process ", pid, "")
     } else {
         Text::whole_in("the trace ends, and process ", pid, " has calls left")
@@ -94,16 +99,11 @@ pub fn another_call<'a>(
         Piece::Plain(" is: "),
         Piece::Whole(due),
     );
-    let fault = Fault::new(what, expected, call_span(line.text), Page::Checking);
-    let script_line = match process {
-        Some(process) => line_due(walk.line_due(&process), due),
-        None => None,
-    };
-    Ok(Finding::at(alloc, line, fault, script_line))
+    Fault::new(what, expected, call_span(line), Page::Checking)
 }
 
 // A signal ends a process, and the trace goes on with it.
-fn killed<'a>(line: Line<'a>, pid: &'a [u8], due: &'a [u8]) -> Fault<'a> {
+fn killed<'a>(line: &'a [u8], pid: &'a [u8], due: &'a [u8]) -> Fault<'a> {
     let what = Text::whole_in("a signal ends process ", pid, ", and that is its next line");
     let expected = Text::four(
         Piece::Whole(pid),
@@ -111,7 +111,7 @@ fn killed<'a>(line: Line<'a>, pid: &'a [u8], due: &'a [u8]) -> Fault<'a> {
         Piece::Whole(due),
         Piece::Plain(" = ended"),
     );
-    Fault::new(what, expected, call_span(line.text), Page::Checking)
+    Fault::new(what, expected, call_span(line), Page::Checking)
 }
 
 // Whether a line's entry is a fork that replies this number.
@@ -127,94 +127,82 @@ fn is_fork_of(line: &[u8], pid: &[u8]) -> bool {
 }
 
 // The first line behind the fault's that forks a process.
-fn fork_below<'a>(judged: Judged<'a>, pid: &[u8]) -> Option<Other<'a>> {
+fn fork_below<'a>(judged: Judged<'a>, pid: &[u8]) -> Option<Line<'a>> {
     for line in judged.lines() {
         if line.number > judged.number && is_fork_of(line.text, pid) {
-            return Some(Other {
-                number: line.number,
-                line: line.text,
-                what: Text::plain("forks it, and stands below"),
-            });
+            return Some(line);
         }
     }
     None
 }
 
+// There is no such process.
+fn no_process<'a>(judged: Judged<'a>, pid: &'a [u8]) -> Told<'a> {
+    let later = fork_below(judged, pid);
+    let behind = if later.is_some() { " yet" } else { "" };
+    let what = Text::whole_in("there is no process ", pid, behind);
+    let expected = Text::plain("1, or a number that a `fork` above replies");
+    let fault = Fault::new(what, expected, Span::of(0, pid.len()), Page::Checking);
+    Told::beside(fault, later, "forks it, and stands below")
+}
+
 // The process has ended, or there is none.
-fn no_call_left<'a>(
-    alloc: Global,
-    judged: Judged<'a>,
-    pid: &'a [u8],
-    process: Option<Process<'a>>,
-) -> Finding<'a>
-    ensures { result.number ≡ Some judged.entry.number }
-{
-    let span = Span::of(0, pid.len());
-    let line = judged.line();
+fn no_call_left<'a>(judged: Judged<'a>, pid: &'a [u8], process: Option<Process<'a>>) -> Told<'a> {
     match process {
-        None => {
-            let later = fork_below(judged, pid);
-            let behind = if later.is_some() { " yet" } else { "" };
-            let what = Text::whole_in("there is no process ", pid, behind);
-            let expected = Text::plain("1, or a number that a `fork` above replies");
-            let fault = Fault::new(what, expected, span, Page::Checking);
-            Finding::at(alloc, line, fault, later)
-        }
         Some(process) => {
             let what = Text::whole_in("process ", pid, " has ended");
             let expected = Text::plain("no further line of this process");
-            let fault = Fault::new(what, expected, span, Page::Checking);
-            let last = match process.ended {
-                Some(its) => Some(Other {
-                    number: its.number,
-                    line: its.text,
-                    what: Text::plain("is its last line"),
-                }),
-                None => None,
-            };
-            Finding::at(alloc, line, fault, last)
+            let fault = Fault::new(what, expected, Span::of(0, pid.len()), Page::Checking);
+            Told::beside(fault, process.ended, "is its last line")
         }
+        None => no_process(judged, pid),
     }
 }
 
 // The line of the script that is due, where it agrees with what the program says is due.
 fn line_due<'a>(line: Option<Line<'a>>, due: &[u8]) -> Option<Other<'a>> {
-    let line = line?;
-    let call = Call::of(Words::of(line.text));
-    let name = call.name();
-    if name == text_at(Words::of(due), 0)
-        || (due == b"exit 0".as_slice() && name == b"end".as_slice())
-    {
-        Some(Other {
-            number: line.number,
-            line: line.text,
-            what: Text::plain("is the line of the script that is due"),
-        })
+    let name = Call::of(Words::of(line?.text)).name();
+    let is_end = due == b"exit 0".as_slice() && name == b"end".as_slice();
+    if is_end || name == text_at(Words::of(due), 0) {
+        others(line, "is the line of the script that is due")
     } else {
         None
     }
 }
 
-// Why the kernel can't make a call at all, and what is expected in its place.
-fn why_none(entry: Option<Entry<'_>>) -> (Text<'_>, Text<'_>) {
-    let made = (
-        Text::plain("a kernel can't make this call here"),
-        Text::plain("a call that it can make"),
-    );
-    let Some(entry) = entry else {
-        return made;
-    };
-    match text_at(entry.call, 0) {
-        b"killed" => (
-            Text::whole_in("no signal ends process ", entry.pid, " here"),
-            Text::plain("a call of its own, or no line"),
-        ),
+// Why the kernel can't make this call of a process at all, and what is expected in its place.
+fn why_none<'a>(call: &[u8], pid: &'a [u8]) -> (Text<'a>, &'static str) {
+    match call {
+        b"killed" => {
+            let what = Text::whole_in("no signal ends process ", pid, " here");
+            (what, "a call of its own, or no line")
+        }
         b"fork" | b"msgget" | b"semget" => (
             Text::plain("a kernel can't give this number out here"),
-            Text::plain("a number from 1 on that was never given out before"),
+            "a number from 1 on that was never given out before",
         ),
-        _ => made,
+        _ => (
+            Text::plain("a kernel can't make this call here"),
+            "a call that it can make",
+        ),
     }
+}
+
+// The kernel can't make the call of a line.
+fn no_reply<'a>(line: &'a [u8], entry: Option<Entry<'a>>) -> Fault<'a> {
+    let (what, expected) = match entry {
+        Some(entry) => why_none(text_at(entry.call, 0), entry.pid),
+        None => why_none(b"", b""),
+    };
+    Fault::new(what, Text::plain(expected), call_span(line), Page::Kernel)
+}
+
+// The kernel replies otherwise than a line, whose reply is there or else the whole line.
+fn other_reply<'a>(kernel: &'a [u8], span: Span) -> Fault<'a> {
+    let says = Piece::Plain(meaning(kernel).unwrap_or(""));
+    let expected = Text::two(Piece::Reply(kernel), says);
+    let what = Text::plain("a single kernel replies otherwise here");
+    Fault::new(what, expected, span, Page::Kernel)
 }
 
 /// What is told where the kernel replies otherwise than the trace has it: `told` is its reply, `trace`, and that of the
@@ -229,17 +217,10 @@ pub fn another_reply<'a>(alloc: Global, judged: Judged<'a>, told: &'a [u8]) -> F
         None => (b"".as_slice(), None),
     };
     let kernel = before_mark(told, b" trace ", replied);
-    if kernel == b"none".as_slice() {
-        let (what, expected) = why_none(entry);
-        let fault = Fault::new(what, expected, call_span(line.text), Page::Kernel);
-        return Finding::at(alloc, line, fault, None);
-    }
-    let expected = Text::two(
-        Piece::Reply(kernel),
-        Piece::Plain(meaning(kernel).unwrap_or("")),
-    );
-    let what = Text::plain("a single kernel replies otherwise here");
-    let whole = Span::of(0, line.text.len());
-    let fault = Fault::new(what, expected, span.unwrap_or(whole), Page::Kernel);
+    let fault = if kernel == b"none".as_slice() {
+        no_reply(line.text, entry)
+    } else {
+        other_reply(kernel, span.unwrap_or(Span::of(0, line.text.len())))
+    };
     Finding::at(alloc, line, fault, None)
 }

@@ -1,6 +1,7 @@
 //! A line of a trace, cut at its signs.
 
 use explain_base::{Span, Word, Words};
+use explain_calls::{count_of, text_at};
 
 /// A line of a trace: the process, the words of the call, and those of the reply.
 #[derive(Clone, Copy)]
@@ -10,17 +11,28 @@ pub struct Entry<'a> {
     pub reply: Words<'a>,
 }
 
-/// The text of the word at that place; nothing where none is there.
-pub fn text_at(words: Words<'_>, place: usize) -> &[u8] {
-    match words.get(place) {
-        Some(word) => word.text,
-        None => &[],
-    }
-}
-
 /// Whether so many words are there.
 pub fn are(words: Words, count: usize) -> bool {
     words.count() == count
+}
+
+// Whether a word is this one, or digits where this is empty.
+fn is_like(text: &[u8], wanted: &str) -> bool {
+    if wanted.is_empty() {
+        count_of(text).is_some()
+    } else {
+        text == wanted.as_bytes()
+    }
+}
+
+/// Whether words are these and no others; digits stand where these have an empty one.
+pub fn are_like(words: Words, wanted: &[&str]) -> bool {
+    for (place, name) in wanted.iter().enumerate() {
+        if !is_like(text_at(words, place), name) {
+            return false;
+        }
+    }
+    are(words, wanted.len())
 }
 
 /// The words of a line before one of its words.
@@ -40,16 +52,9 @@ pub fn sign_in(line: &[u8]) -> Option<(usize, Word<'_>)> {
 
 /// The last word but one and the last.
 pub fn last_two(line: &[u8]) -> Option<(Word<'_>, Word<'_>)> {
-    let mut last = None;
-    let mut before = None;
-    for word in Words::of(line) {
-        before = last;
-        last = Some(word);
-    }
-    match (before, last) {
-        (Some(before), Some(last)) => Some((before, last)),
-        _ => None,
-    }
+    let words = Words::of(line);
+    let before = words.get(words.count().checked_sub(2)?)?;
+    Some((before, words.last()?))
 }
 
 /// The entry of a line, where it has the shape of one.

@@ -6,29 +6,72 @@ pub static ERRORS_AND_ENDED: [&str; 13] = [
     "ERANGE", "EIDRM", "EINTR", "ended",
 ];
 
+// An error's name, and what it says.
+#[derive(Clone, Copy)]
+struct Saying {
+    name: &'static str,
+    says: &'static str,
+}
+
+static SAYINGS: [Saying; 12] = [
+    Saying {
+        name: "ESRCH",
+        says: ": no such process, or it is gone",
+    },
+    Saying {
+        name: "EINVAL",
+        says: ": nothing has this number, or a word is out of the range that the call takes",
+    },
+    Saying {
+        name: "ECHILD",
+        says: ": the caller has no such child, living or ended",
+    },
+    Saying {
+        name: "ENOENT",
+        says: ": the key leads nowhere, and `create` isn't there",
+    },
+    Saying {
+        name: "EEXIST",
+        says: ": the key leads to one already, and it would have to be new",
+    },
+    Saying {
+        name: "ENOMSG",
+        says: ": the queue has no message of that type",
+    },
+    Saying {
+        name: "EAGAIN",
+        says: ": there is no room in the queue, or a semaphore doesn't let an operation go on",
+    },
+    Saying {
+        name: "E2BIG",
+        says: ": the message is longer than what is taken, or there are too many operations",
+    },
+    Saying {
+        name: "EFBIG",
+        says: ": the set has no semaphore of that index",
+    },
+    Saying {
+        name: "ERANGE",
+        says: ": a value would be above 32767",
+    },
+    Saying {
+        name: "EIDRM",
+        says: ": what the caller waited on was removed",
+    },
+    Saying {
+        name: "EINTR",
+        says: ": a signal ended the wait",
+    },
+];
+
 /// What an error's name says; none where this is the name of none.
 pub fn meaning(name: &[u8]) -> Option<&'static str> {
-    match name {
-        b"ESRCH" => Some(": no such process, or it is gone"),
-        b"EINVAL" => Some(
-            ": nothing has this number, or a word is out of the range that the call takes",
-        ),
-        b"ECHILD" => Some(": the caller has no such child, living or ended"),
-        b"ENOENT" => Some(": the key leads nowhere, and `create` isn't there"),
-        b"EEXIST" => Some(": the key leads to one already, and it would have to be new"),
-        b"ENOMSG" => Some(": the queue has no message of that type"),
-        b"EAGAIN" => Some(
-            ": there is no room in the queue, or a semaphore doesn't let an operation go on",
-        ),
-        b"E2BIG" => {
-            Some(": the message is longer than what is taken, or there are too many operations")
+    for error in &SAYINGS {
+        if error.name.as_bytes() == name {
+            return Some(error.says);
         }
-        b"EFBIG" => Some(": the set has no semaphore of that index"),
-        b"ERANGE" => Some(": a value would be above 32767"),
-        b"EIDRM" => Some(": what the caller waited on was removed"),
-        b"EINTR" => Some(": a signal ended the wait"),
-        _ => None,
     }
+    None
 }
 
 /// Whether it is one of those that come where nothing is ready.

@@ -1,10 +1,11 @@
 //! What is wrong with the text of one line of a trace, which has to be just as the program writes it.
 
-use crate::entry::{are, before, last_two, sign_in, text_at};
+use crate::entry::{are, before, last_two, sign_in};
 use crate::replies::{wrong_order, wrong_reply, wrong_spelling};
 use explain_base::{Fault, Lines, Nearest, Page, Piece, Span, Text, Word, Words, Wrong};
 use explain_calls::{
-    CALL_NAMES, CALLS, CallName, GREATEST, Range, fault_of, is_variable, number, signal,
+    CALL_NAMES, CALLS, Form, GREATEST, Range, fault_of, is_variable, number, plain_wrong, signal,
+    text_at,
 };
 
 /// How a line of a trace is written.
@@ -45,24 +46,32 @@ fn has_block(script: &[u8], name: &[u8]) -> bool {
 pub fn wrong_blanks(line: &[u8]) -> Option<Wrong<'_>> {
     let mut end = 0;
     for word in Words::of(line) {
-        let between = line.get(end..word.start).unwrap_or(&[]);
-        let wanted: &[u8] = if end > 0 { b" " } else { b"" };
-        if between != wanted {
-            return Some(blanks(between, Span::of(end, word.start)));
+        let span = Span::of(end, word.start);
+        let is_first = end == 0;
+        if !parts(line.get(end..word.start).unwrap_or(&[]), is_first) {
+            return Some(blanks(line, span));
         }
         end = word.end();
     }
     if end < line.len() {
-        return Some(Wrong::new(
-            Text::plain("a blank stands at the line's end"),
-            Text::plain("no blank"),
-            Span::of(end, line.len()),
-        ));
+        let span = Span::of(end, line.len());
+        Some(plain_wrong("a blank stands at the line's end", "no blank", span))
+    } else {
+        None
     }
-    None
 }
 
-fn blanks<'a>(between: &'a [u8], span: Span) -> Wrong<'a> {
+// Whether these blanks stand before a word of a trace, which may be the first.
+fn parts(blanks: &[u8], is_first: bool) -> bool {
+    if is_first {
+        blanks.is_empty()
+    } else {
+        blanks == b" ".as_slice()
+    }
+}
+
+fn blanks<'a>(line: &'a [u8], span: Span) -> Wrong<'a> {
+    let between = line.get(span.start..span.end).unwrap_or(&[]);
     let (what, expected) = if span.start == 0 {
         ("a blank begins the line", "no blank")
     } else if between.contains(&b'\t') {
@@ -70,37 +79,47 @@ fn blanks<'a>(between: &'a [u8], span: Span) -> Wrong<'a> {
     } else {
         ("two blanks part two words", "one space")
     };
-    Wrong::new(Text::plain(what), Text::plain(expected), span)
+    plain_wrong(what, expected, span)
 }
 
 // A line that lacks something behind its last word.
-fn lacks<'a>(line: &'a [u8], what: &'static str, expected: &'static str) -> Fault<'a> {
+fn lacks<'a>(line: &'a [u8], what: &'static str, expected: &'static str) -> Wrong<'a> {
     let span = match Words::of(line).last() {
         Some(last) => last.behind(),
         None => Span::of(0, 1),
     };
-    Wrong::new(Text::plain(what), Text::plain(expected), span).fault(FORM, Page::Trace)
+    plain_wrong(what, expected, span)
+}
+
+// What is wrong with the word that a line begins with.
+fn wrong_pid(first: Word<'_>) -> Option<Wrong<'_>> {
+    let wrong = number(first, Range::of("PID", 0, GREATEST))?;
+    let begins = Text::plain("a line begins with its process's number");
+    Some(Wrong::new(wrong.what, begins, wrong.span))
 }
 
 /// The first thing that is wrong with a line, in a trace of this script.
 pub fn entry_fault<'a>(script: &'a [u8], line: &'a [u8]) -> Option<Fault<'a>> {
-    if let Some(wrong) = wrong_blanks(line) {
-        return Some(wrong.fault(FORM, Page::Trace));
-    }
     let first = Words::of(line).get(0)?;
-    if let Some(wrong) = number(first, Range::of("PID", 0, GREATEST)) {
-        let begins = Text::plain("a line begins with its process's number");
-        let wrong = Wrong::new(wrong.what, begins, wrong.span);
-        return Some(wrong.fault(FORM, Page::Trace));
+    let front = wrong_blanks(line).or(wrong_pid(first));
+    match front {
+        Some(wrong) => Some(wrong.fault(FORM, Page::Trace)),
+        None => behind_pid(script, line),
     }
-    let Some((place, sign)) = sign_in(line) else {
-        return Some(lacks(line, "the line has no `=` before a reply", "= REPLY"));
-    };
-    let call = before(line, sign).behind(1);
-    if let Some(fault) = wrong_call(script, call, sign) {
-        return Some(fault);
+}
+
+// What is wrong behind the process's number.
+fn behind_pid<'a>(script: &'a [u8], line: &'a [u8]) -> Option<Fault<'a>> {
+    match sign_in(line) {
+        Some((place, sign)) => {
+            let call = wrong_call(script, before(line, sign).behind(1), sign);
+            call.or(behind_call(script, line, place))
+        }
+        None => {
+            let wrong = lacks(line, "the line has no `=` before a reply", "= REPLY");
+            Some(wrong.fault(FORM, Page::Trace))
+        }
     }
-    behind_call(script, line, place)
 }
 
 // What is wrong behind the sign, which is the word at that place.
@@ -108,42 +127,56 @@ fn behind_call<'a>(script: &'a [u8], line: &'a [u8], place: usize) -> Option<Fau
     match last_two(line) {
         Some((by, node)) if by.text == b"by".as_slice() => {
             let reply = before(line, by).behind(place.saturating_add(1));
-            if let Some(fault) = wrong_reply(reply, by) {
-                return Some(fault);
-            }
-            wrong_node(node, blocks_of(script))
+            wrong_reply(reply, by).or(wrong_node(script, node))
         }
-        _ => Some(lacks(
-            line,
-            "the line doesn't end with the node that carried the call out",
-            "by NODE",
-        )),
+        _ => {
+            let what = "the line doesn't end with the node that carried the call out";
+            Some(lacks(line, what, "by NODE").fault(FORM, Page::Trace))
+        }
     }
 }
 
+// What is wrong with the words before the sign and behind the process's number.
 fn wrong_call<'a>(script: &'a [u8], words: Words<'a>, sign: Word<'a>) -> Option<Fault<'a>> {
-    let Some(first) = words.get(0) else {
-        let what = Text::plain("the line has no call");
-        let wrong = Wrong::new(what, Text::plain(CALLS), sign.span());
-        return Some(wrong.fault(FORM, Page::Trace));
-    };
-    if first.text == b"killed".as_slice() {
-        return wrong_end(words, first);
+    match words.get(0) {
+        Some(first) if first.text == b"killed".as_slice() => wrong_end(words, first),
+        Some(first) => wrong_words(script, words, first, sign.start.saturating_sub(1)),
+        None => {
+            let wrong = plain_wrong("the line has no call", CALLS, sign.span());
+            Some(wrong.fault(FORM, Page::Trace))
+        }
     }
-    let Some(name) = CallName::of(first.text) else {
-        return Some(no_call(words, first));
-    };
-    let end = sign.start.saturating_sub(1);
-    if let Some(fault) = fault_of(name, words.behind(1), end, true) {
-        let form = fault.form;
-        let wrong = fault.wrong;
-        let page = Page::Trace;
-        return Some(Fault { wrong, form, page });
+}
+
+// What is wrong with the words of a call, which end at that byte.
+fn wrong_words<'a>(
+    script: &'a [u8],
+    words: Words<'a>,
+    first: Word<'a>,
+    end: usize,
+) -> Option<Fault<'a>> {
+    match Form::of(first.text, words.behind(1)) {
+        Some(form) => on_page(fault_of(form, words.behind(1), end, true)).or(unlike(script, words)),
+        None => Some(unlike_call(first, words.get(1).is_none()).fault(FORM, Page::Trace)),
     }
-    match name {
-        CallName::Fork => wrong_block(script, words.get(1)?),
-        CallName::Msgsnd => wrong_spelling(words.get(3)?),
-        CallName::Sigprocmask => wrong_order(words.get(2)?),
+}
+
+// A fault of which the traces' page tells.
+fn on_page(fault: Option<Fault<'_>>) -> Option<Fault<'_>> {
+    let fault = fault?;
+    Some(Fault {
+        wrong: fault.wrong,
+        form: fault.form,
+        page: Page::Trace,
+    })
+}
+
+// What is wrong with a word that a trace spells in one way, or that has to name a block.
+fn unlike<'a>(script: &'a [u8], words: Words<'a>) -> Option<Fault<'a>> {
+    match text_at(words, 0) {
+        b"fork" => wrong_block(script, words.get(1)?),
+        b"msgsnd" => wrong_spelling(words.get(3)?),
+        b"sigprocmask" => wrong_order(words.get(2)?),
         _ => None,
     }
 }
@@ -154,11 +187,7 @@ fn wrong_end<'a>(words: Words<'a>, first: Word<'a>) -> Option<Fault<'a>> {
     let wrong = if are(words, 2) {
         signal(last)?
     } else {
-        Wrong::new(
-            Text::plain("`killed` has one signal behind it"),
-            Text::plain("killed G"),
-            last.span(),
-        )
+        plain_wrong("`killed` has one signal behind it", "killed G", last.span())
     };
     Some(wrong.fault("killed G", Page::Trace))
 }
@@ -175,39 +204,27 @@ fn wrong_block<'a>(script: &'a [u8], name: Word<'a>) -> Option<Fault<'a>> {
     Some(wrong.fault("fork NAME", Page::Trace))
 }
 
-// A word stands where a call's name is due.
-fn no_call<'a>(words: Words<'a>, first: Word<'a>) -> Fault<'a> {
-    let is_alone = words.get(1).is_none();
-    unlike_call(first, is_alone).fault(FORM, Page::Trace)
-}
-
 // What is wrong with a word that is no call's name; whether it is all that stands there.
 fn unlike_call(first: Word<'_>, is_alone: bool) -> Wrong<'_> {
-    let call = Text::plain("the call with its numbers");
-    if first.text == b"try".as_slice() {
-        let what = Text::plain("a trace has each try in a line of its own, without `try N`");
-        return Wrong::new(what, call, first.span());
-    }
-    if is_alone && is_variable(first.text) {
-        let what = Text::plain("a trace has no variables");
-        return Wrong::new(what, call, first.span());
-    }
-    let expected = Nearest::told(first.text, &CALL_NAMES, call);
-    Wrong::new(
-        Text::said(first.text, " is no call"),
-        expected,
-        first.span(),
-    )
+    let call = "the call with its numbers";
+    let what = if first.text == b"try".as_slice() {
+        "a trace has each try in a line of its own, without `try N`"
+    } else if is_alone && is_variable(first.text) {
+        "a trace has no variables"
+    } else {
+        let near = Nearest::told(first.text, &CALL_NAMES, Text::plain(call));
+        return Wrong::new(Text::said(first.text, " is no call"), near, first.span());
+    };
+    plain_wrong(what, call, first.span())
 }
 
-fn wrong_node<'a>(word: Word<'a>, blocks: usize) -> Option<Fault<'a>> {
+fn wrong_node<'a>(script: &'a [u8], word: Word<'a>) -> Option<Fault<'a>> {
     let wrong = number(word, Range::of("NODE", 1, 32))?;
     let has = Text::four(
         wrong.expected.first,
         wrong.expected.second,
         Piece::Plain("; this script has "),
-        Piece::Nodes(blocks),
+        Piece::Nodes(blocks_of(script)),
     );
-    let wrong = Wrong::new(wrong.what, has, wrong.span);
-    Some(wrong.fault(FORM, Page::Trace))
+    Some(Wrong::new(wrong.what, has, wrong.span).fault(FORM, Page::Trace))
 }

@@ -1,15 +1,19 @@
 //! What is wrong with a reply, and with what a trace spells in one way.
 
-use crate::entry::{span_of, text_at};
+use crate::entry::span_of;
 use crate::errors::{ERRORS_AND_ENDED, meaning};
 use crate::fields::FORM;
-use explain_base::{Fault, Nearest, Page, Piece, Span, Text, Word, Words, Wrong};
+use explain_base::{Fault, Nearest, Page, Piece, Text, Word, Words, Wrong};
 use explain_calls::{
-    GREATEST, Range, SIGNALS, is_signal, message_text, number, signal, signal_set,
+    GREATEST, Range, SIGNALS, count_of, is_signal, message_text, number, plain_wrong, signal,
+    signal_set, text_at,
 };
 
 const REPLIES: &str = "a number | PID exited N | PID killed G | TYPE TEXT | signals | \
     qnum N qbytes N lspid N lrpid N | all V,V,.. | ended | an error's name";
+
+// The names in the reply of a queue's state, with a number behind each.
+static QUEUE: [&str; 4] = ["qnum", "qbytes", "lspid", "lrpid"];
 
 // The forms of replies.
 #[derive(Clone, Copy)]
@@ -53,21 +57,34 @@ fn form_of_one(first: &[u8]) -> Option<Reply> {
     }
 }
 
+// Whether words are what a queue's state replies.
+fn is_queue(words: Words) -> bool {
+    for (place, name) in QUEUE.iter().enumerate() {
+        if text_at(words, place.saturating_mul(2)) != name.as_bytes() {
+            return false;
+        }
+    }
+    true
+}
+
+// The form of a reply of three words.
+fn form_of_three(second: &[u8]) -> Option<Reply> {
+    match second {
+        b"exited" => Some(Reply::Exited),
+        b"killed" => Some(Reply::Killed),
+        _ => None,
+    }
+}
+
 // The form that a reply has; none where it has no form.
 fn form_of(words: Words) -> Option<Reply> {
     let first = text_at(words, 0);
-    let second = text_at(words, 1);
     match words.count() {
         1 => form_of_one(first),
         2 if first == b"all".as_slice() => Some(Reply::Values),
         2 if begins_number(first) => Some(Reply::Message),
-        3 if second == b"exited".as_slice() => Some(Reply::Exited),
-        3 if second == b"killed".as_slice() => Some(Reply::Killed),
-        8
-            if first == b"qnum".as_slice()
-                && text_at(words, 2) == b"qbytes".as_slice()
-                && text_at(words, 4) == b"lspid".as_slice()
-                && text_at(words, 6) == b"lrpid".as_slice() => { Some(Reply::Queue) }
+        3 => form_of_three(text_at(words, 1)),
+        8 if is_queue(words) => Some(Reply::Queue),
         _ => None,
     }
 }
@@ -95,31 +112,20 @@ fn wrong_values(word: Word<'_>) -> Option<Wrong<'_>> {
     None
 }
 
+// The number, and the text behind it.
 fn wrong_message(words: Words<'_>) -> Option<Wrong<'_>> {
     let wrong = number(words.get(0)?, Range::of("TYPE", -2147483647, 2147483647));
-    if wrong.is_some() {
-        wrong
-    } else {
-        message_text(words.get(1)?)
-    }
+    wrong.or(message_text(words.get(1)?))
 }
 
-fn wrong_exit(words: Words<'_>) -> Option<Wrong<'_>> {
-    let wrong = wrong_number(words, 0, "PID", GREATEST);
-    if wrong.is_some() {
-        wrong
-    } else {
+// The process, and how it ended.
+fn wrong_end(words: Words<'_>, is_exit: bool) -> Option<Wrong<'_>> {
+    let end = if is_exit {
         wrong_number(words, 2, "N", 255)
-    }
-}
-
-fn wrong_kill(words: Words<'_>) -> Option<Wrong<'_>> {
-    let wrong = wrong_number(words, 0, "PID", GREATEST);
-    if wrong.is_some() {
-        wrong
     } else {
         signal(words.get(2)?)
-    }
+    };
+    wrong_number(words, 0, "PID", GREATEST).or(end)
 }
 
 fn wrong_queue(words: Words<'_>) -> Option<Wrong<'_>> {
@@ -141,118 +147,125 @@ fn wrong_word(reply: Reply, words: Words<'_>) -> Option<Wrong<'_>> {
         Reply::Number => wrong_number(words, 0, "the reply", GREATEST),
         Reply::Signals => signal_set(words.get(0)?, false),
         Reply::Values => wrong_values(words.get(1)?),
+        _ => wrong_further(reply, words),
+    }
+}
+
+// The same of a reply of more words.
+fn wrong_further(reply: Reply, words: Words<'_>) -> Option<Wrong<'_>> {
+    match reply {
         Reply::Message => wrong_message(words),
-        Reply::Exited => wrong_exit(words),
-        Reply::Killed => wrong_kill(words),
         Reply::Queue => wrong_queue(words),
+        _ => wrong_end(words, matches!(reply, Reply::Exited)),
+    }
+}
+
+// What is wrong with words that have the form of no reply.
+fn no_reply<'a>(words: Words<'a>, first: Word<'a>) -> Wrong<'a> {
+    let near = Nearest::told(first.text, &ERRORS_AND_ENDED, Text::none());
+    let span = span_of(words).unwrap_or(first.span());
+    Wrong::new(Text::plain("this is no reply"), near, span)
+}
+
+// What is wrong with a reply that has a form, or doesn't.
+fn wrong_words<'a>(words: Words<'a>, first: Word<'a>) -> Option<Wrong<'a>> {
+    match form_of(words) {
+        Some(reply) => wrong_word(reply, words),
+        None => Some(no_reply(words, first)),
     }
 }
 
 /// What is wrong with a reply, which stands before the word `by`.
 pub fn wrong_reply<'a>(words: Words<'a>, by: Word<'a>) -> Option<Fault<'a>> {
-    let (Some(first), Some(last)) = (words.get(0), words.last()) else {
-        let what = Text::plain("the line has no reply");
-        let wrong = Wrong::new(what, Text::plain("a reply"), by.span());
+    let Some(first) = words.get(0) else {
+        let wrong = plain_wrong("the line has no reply", "a reply", by.span());
         return Some(wrong.fault(FORM, Page::Trace));
     };
-    let Some(reply) = form_of(words) else {
-        let near = Nearest::told(first.text, &ERRORS_AND_ENDED, Text::none());
-        let span = span_of(words).unwrap_or(first.span());
-        let wrong = Wrong::new(Text::plain("this is no reply"), near, span);
-        return Some(wrong.fault(REPLIES, Page::Trace));
-    };
-    if let Some(wrong) = wrong_word(reply, words) {
-        return Some(wrong.fault(REPLIES, Page::Trace));
+    match wrong_words(words, first) {
+        Some(wrong) => Some(wrong.fault(REPLIES, Page::Trace)),
+        None if words.get(1).is_none() => wrong_order(first),
+        None => wrong_spelling(words.last()?),
     }
-    if words.get(1).is_none() {
-        wrong_order(last)
-    } else {
-        wrong_spelling(last)
+}
+
+// Whether the names of a set are signals, and two that follow on each other aren't in the table's order.
+fn is_disordered(set: &[u8]) -> bool {
+    let mut from = 0;
+    let mut is_ordered = true;
+    for name in set.split(|byte| *byte == b',') {
+        match SIGNALS.iter().position(|it| it.as_bytes() == name) {
+            Some(place) => {
+                is_ordered = is_ordered && from <= place;
+                from = place;
+            }
+            None => return false,
+        }
     }
+    !is_ordered
 }
 
 /// A set of signals whose names aren't in the table's order.
 pub fn wrong_order(word: Word<'_>) -> Option<Fault<'_>> {
-    let mut from = 0;
-    let mut is_ordered = true;
-    for name in word.text.split(|byte| *byte == b',') {
-        let place = SIGNALS.iter().position(|it| it.as_bytes() == name)?;
-        is_ordered = is_ordered && from <= place;
-        from = place;
-    }
-    if is_ordered {
+    if !is_disordered(word.text) {
         return None;
     }
     let ordered = Piece::InOrder {
         words: &SIGNALS,
         listed: word.text,
     };
-    let wrong = Wrong::new(
-        Text::plain("the signals of a set stand in the table's order"),
-        Text::one(ordered),
-        word.span(),
-    );
-    Some(wrong.fault(FORM, Page::Trace))
+    let what = Text::plain("the signals of a set stand in the table's order");
+    Some(Wrong::new(what, Text::one(ordered), word.span()).fault(FORM, Page::Trace))
+}
+
+// The letter of which a text between quotes has 17 or more and no other, and how many.
+fn repeated(text: &[u8]) -> Option<(u8, usize)> {
+    let [b'"', letter, others @ .., b'"'] = text else {
+        return None;
+    };
+    let is_it = others.len() >= 16
+        && letter.is_ascii_alphanumeric()
+        && others.iter().all(|byte| *byte == *letter);
+    if is_it {
+        Some((*letter, others.len().saturating_add(1)))
+    } else {
+        None
+    }
 }
 
 // A text of many times one letter or digit that isn't written in short.
 fn unshortened(word: Word<'_>) -> Option<Wrong<'_>> {
-    let [b'"', text @ .., b'"'] = word.text else {
-        return None;
-    };
-    let letter = *text.first()?;
-    if text.len() < 17
-        || !letter.is_ascii_alphanumeric()
-        || !text.iter().all(|byte| *byte == letter)
-    {
-        return None;
-    }
+    let (byte, number) = repeated(word.text)?;
     let what = Text::plain(
         "a text of 17 or more times the same letter or digit is written in short",
     );
     let short = Text::four(
         Piece::Plain("rep:"),
-        Piece::Number(text.len()),
+        Piece::Number(number),
         Piece::Plain(":"),
-        Piece::Times {
-            byte: letter,
-            count: 1,
-        },
+        Piece::Times { byte, count: 1 },
     );
     Some(Wrong::new(what, short, word.span()))
 }
 
-// The number that digits are, where it is below 17.
-fn few(digits: &[u8]) -> Option<usize> {
-    if digits.is_empty() {
+// The letter that a text in short repeats fewer than 17 times, and how often.
+fn repeated_few(text: &[u8]) -> Option<(u8, usize)> {
+    let [b'r', b'e', b'p', b':', digits @ .., b':', letter] = text else {
         return None;
+    };
+    let count = count_of(digits)?;
+    if letter.is_ascii_alphanumeric() && count < 17 {
+        Some((*letter, count))
+    } else {
+        None
     }
-    let mut value = 0usize;
-    for digit in digits {
-        if !digit.is_ascii_digit() {
-            return None;
-        }
-        value = value
-            .saturating_mul(10)
-            .saturating_add(usize::from(digit.saturating_sub(b'0')));
-    }
-    if value < 17 { Some(value) } else { None }
 }
 
 // A text that is written in short and has too few bytes for that.
 fn shortened(word: Word<'_>) -> Option<Wrong<'_>> {
-    let [b'r', b'e', b'p', b':', digits @ .., b':', letter] = word.text else {
-        return None;
-    };
-    if !letter.is_ascii_alphanumeric() {
-        return None;
-    }
+    let (byte, count) = repeated_few(word.text)?;
     let long = Text::three(
         Piece::Plain("\""),
-        Piece::Times {
-            byte: *letter,
-            count: few(digits)?,
-        },
+        Piece::Times { byte, count },
         Piece::Plain("\""),
     );
     let what = Text::plain("a text of fewer than 17 bytes stands between quotes");
@@ -281,26 +294,20 @@ fn needless(bytes: &[u8]) -> Option<u8> {
     }
 }
 
-/// A text that isn't in the one spelling that a trace has for it.
-pub fn wrong_spelling(word: Word<'_>) -> Option<Fault<'_>> {
-    if let Some(wrong) = unshortened(word) {
-        return Some(wrong.fault(FORM, Page::Trace));
-    }
-    if let Some(wrong) = shortened(word) {
-        return Some(wrong.fault(FORM, Page::Trace));
-    }
+// The first byte that is spelled and could stand for itself.
+fn spelled(word: Word<'_>) -> Option<Wrong<'_>> {
     for at in 0..word.text.len() {
         if let Some(byte) = needless(word.text.get(at..)?) {
-            let wrong = Wrong::new(
-                Text::plain("a byte that can stand for itself is spelled"),
-                Text::one(Piece::Times { byte, count: 1 }),
-                Span::of(
-                    word.start.saturating_add(at),
-                    word.start.saturating_add(at).saturating_add(4),
-                ),
-            );
-            return Some(wrong.fault(FORM, Page::Trace));
+            let what = Text::plain("a byte that can stand for itself is spelled");
+            let itself = Text::one(Piece::Times { byte, count: 1 });
+            return Some(Wrong::new(what, itself, word.part(at, at.saturating_add(4))));
         }
     }
     None
+}
+
+/// A text that isn't in the one spelling that a trace has for it.
+pub fn wrong_spelling(word: Word<'_>) -> Option<Fault<'_>> {
+    let wrong = unshortened(word).or(shortened(word)).or(spelled(word))?;
+    Some(wrong.fault(FORM, Page::Trace))
 }

@@ -1,51 +1,76 @@
 //! The totals of a trace: what they have to be, and what is wrong with them.
 
-use crate::entry::{Entry, are, entry_of, text_at};
+use crate::entry::{Entry, are, are_like, entry_of};
 use crate::errors::{is_not_ready, meaning};
 use crate::fields::wrong_blanks;
 use explain_base::{Fault, Lines, Page, Piece, Span, Text, Totals, Word, Words, Wrong};
+use explain_calls::{count_of, text_at};
 
-/// The words of a totals line that are numbers.
+// The words of a line of totals, with nothing in the numbers' places.
+static NAMES: [&str; 9] = [
+    "totals",
+    "entries",
+    "",
+    "processes",
+    "",
+    "notready",
+    "",
+    "refused",
+    "",
+];
+
+// One of the totals: the place of its number, its name, and what is counted.
 #[derive(Clone, Copy)]
-pub struct Written<'a> {
-    entries: Word<'a>,
-    processes: Word<'a>,
-    not_ready: Word<'a>,
-    refused: Word<'a>,
+struct Total {
+    place: usize,
+    name: &'static str,
+    of: &'static str,
 }
 
-fn digits_at(words: Words<'_>, place: usize) -> Option<Word<'_>> {
-    let word = words.get(place)?;
-    if word.text.iter().all(|byte| byte.is_ascii_digit()) {
-        Some(word)
-    } else {
-        None
+static TOTALS: [Total; 4] = [
+    Total {
+        place: 2,
+        name: "entries ",
+        of: " lines",
+    },
+    Total {
+        place: 4,
+        name: "processes ",
+        of: " processes: 1, and one for each fork",
+    },
+    Total {
+        place: 6,
+        name: "notready ",
+        of: " replies ENOMSG and EAGAIN",
+    },
+    Total {
+        place: 8,
+        name: "refused ",
+        of: " other refusals",
+    },
+];
+
+// The number that stands at that place of a line of totals.
+fn counted_at(totals: Totals, place: usize) -> usize {
+    match place {
+        2 => totals.entries,
+        4 => totals.processes,
+        6 => totals.not_ready,
+        _ => totals.refused,
     }
 }
 
-/// The numbers of a totals line, where it is one, whatever they are.
-pub fn totals_in(line: &[u8]) -> Option<Written<'_>> {
-    let words = Words::of(line);
-    if text_at(words, 0) != b"totals".as_slice()
-        || text_at(words, 1) != b"entries".as_slice()
-        || text_at(words, 3) != b"processes".as_slice()
-        || text_at(words, 5) != b"notready".as_slice()
-        || text_at(words, 7) != b"refused".as_slice()
-        || !are(words, 9)
-        || wrong_blanks(line).is_some()
-    {
-        return None;
+// The name at that place of a line of totals; nothing where a number stands, or no word.
+fn name_at(place: usize) -> &'static [u8] {
+    match NAMES.get(place) {
+        Some(name) => name.as_bytes(),
+        None => &[],
     }
-    let entries = digits_at(words, 2)?;
-    let processes = digits_at(words, 4)?;
-    let not_ready = digits_at(words, 6)?;
-    let refused = digits_at(words, 8)?;
-    Some(Written {
-        entries,
-        processes,
-        not_ready,
-        refused,
-    })
+}
+
+/// Whether a line is one of totals, whatever its numbers are.
+pub fn is_totals(line: &[u8]) -> bool {
+    are_like(Words::of(line), &NAMES) && wrong_blanks(line).is_none()
 }
 
 // The reply of an entry, where it is an error's name.
@@ -93,89 +118,44 @@ pub fn totals_of(lines: Lines, number: usize) -> Totals {
 
 // Whether a word is this number in its one spelling.
 fn spells(text: &[u8], number: usize) -> bool {
-    if text.is_empty() || (text.len() > 1 && text.starts_with(b"0")) {
-        return false;
-    }
-    let mut value = 0usize;
-    for digit in text {
-        if !digit.is_ascii_digit() {
-            return false;
-        }
-        value = value
-            .saturating_mul(10)
-            .saturating_add(usize::from(digit.saturating_sub(b'0')));
-    }
-    value == number
+    let has_zero = text.len() > 1 && text.starts_with(b"0");
+    !has_zero && count_of(text) == Some(number)
 }
 
-// One of the totals: its word, what was counted, its name, and what is counted.
-fn wrong_total<'a>(
-    word: Word<'a>,
-    counted: usize,
-    name: &'static str,
-    of: &'static str,
-) -> Option<Wrong<'a>> {
-    if spells(word.text, counted) {
-        return None;
-    }
+// What is wrong with the number of one of the totals.
+fn wrong_total<'a>(word: Word<'a>, total: Total, counted: usize) -> Wrong<'a> {
     let what = Text::three(
         Piece::Plain("the totals are wrong: "),
-        Piece::Plain(name),
+        Piece::Plain(total.name),
         Piece::Whole(word.text),
     );
     let expected = Text::three(
         Piece::Plain("counted are "),
         Piece::Number(counted),
-        Piece::Plain(of),
+        Piece::Plain(total.of),
     );
-    Some(Wrong::new(what, expected, word.span()))
+    Wrong::new(what, expected, word.span())
 }
 
 // The first of the totals that isn't what was counted.
-fn first_wrong<'a>(written: Written<'a>, totals: Totals) -> Option<Wrong<'a>> {
-    let entries = wrong_total(written.entries, totals.entries, "entries ", " lines");
-    if entries.is_some() {
-        return entries;
+fn first_wrong<'a>(words: Words<'a>, totals: Totals) -> Option<Wrong<'a>> {
+    for total in &TOTALS {
+        let counted = counted_at(totals, total.place);
+        let word = words.get(total.place)?;
+        if !spells(word.text, counted) {
+            return Some(wrong_total(word, *total, counted));
+        }
     }
-    let processes = wrong_total(
-        written.processes,
-        totals.processes,
-        "processes ",
-        " processes: 1, and one for each fork",
-    );
-    if processes.is_some() {
-        return processes;
-    }
-    let not_ready = wrong_total(
-        written.not_ready,
-        totals.not_ready,
-        "notready ",
-        " replies ENOMSG and EAGAIN",
-    );
-    if not_ready.is_some() {
-        return not_ready;
-    }
-    wrong_total(
-        written.refused,
-        totals.refused,
-        "refused ",
-        " other refusals",
-    )
+    None
 }
 
 // Whether the word at a place is what the totals line has there.
 fn is_wanted(place: usize, text: &[u8], totals: Totals) -> bool {
-    match place {
-        0 => text == b"totals".as_slice(),
-        1 => text == b"entries".as_slice(),
-        2 => spells(text, totals.entries),
-        3 => text == b"processes".as_slice(),
-        4 => spells(text, totals.processes),
-        5 => text == b"notready".as_slice(),
-        6 => spells(text, totals.not_ready),
-        7 => text == b"refused".as_slice(),
-        8 => spells(text, totals.refused),
-        _ => true,
+    let name = name_at(place);
+    if !name.is_empty() {
+        text == name
+    } else {
+        place >= NAMES.len() || spells(text, counted_at(totals, place))
     }
 }
 
@@ -191,23 +171,22 @@ fn unlike(line: &[u8], totals: Totals) -> Span {
     Span::of(start, line.len())
 }
 
+// What is wrong with a line that begins as the totals and isn't a line of totals, or has none of them wrong.
+fn no_totals<'a>(line: &'a [u8], totals: Totals) -> Wrong<'a> {
+    let what = "the last line of a trace is `totals entries E processes P notready N refused F`";
+    Wrong::new(Text::plain(what), Text::none(), unlike(line, totals))
+}
+
 /// What is wrong with a line that begins as the totals.
 pub fn wrong_totals<'a>(line: &'a [u8], totals: Totals) -> Fault<'a> {
-    let counted = match totals_in(line) {
-        Some(written) => first_wrong(written, totals),
-        None => None,
+    let counted = if is_totals(line) {
+        first_wrong(Words::of(line), totals)
+    } else {
+        None
     };
-    let wrong = match counted {
-        Some(wrong) => wrong,
-        None => Wrong::new(
-            Text::plain(
-                "the last line of a trace is `totals entries E processes P notready N refused F`",
-            ),
-            Text::none(),
-            unlike(line, totals),
-        ),
-    };
-    let form = Text::one(Piece::Totals(totals));
-    let page = Page::Trace;
-    Fault { wrong, form, page }
+    Fault {
+        wrong: counted.unwrap_or(no_totals(line, totals)),
+        form: Text::one(Piece::Totals(totals)),
+        page: Page::Trace,
+    }
 }

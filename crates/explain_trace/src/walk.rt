@@ -2,9 +2,9 @@
 //! of signals: a process that a signal dooms makes fewer calls than its block has. So what is found here is a hint,
 //! which is told only where it agrees with what the program says is due.
 
-use crate::entry::{Entry, are, entry_of, text_at};
+use crate::entry::{Entry, are, entry_of};
 use explain_base::{Line, Lines, Words};
-use explain_calls::Call;
+use explain_calls::{Call, text_at};
 use std::alloc::{AllocError, Global};
 
 // The most processes of a script. More that a trace may name aren't followed.
@@ -29,6 +29,8 @@ struct Begin<'a> {
 struct Calls<'a> {
     begins: Vec<Begin<'a>>,
     calls: Vec<Option<Due<'a>>>,
+    // whether the last call that was read is an `exit`
+    has_exit: bool,
 }
 
 /// A process in its block: which call is due, how often it was made, and the line of the trace at which it ended.
@@ -48,38 +50,53 @@ pub struct Walk<'a> {
 }
 
 impl<'a> Calls<'a> {
-    // The calls of a script's blocks. The line `end` stands for the `exit` that is implied there.
+    // The calls of a script's blocks.
     fn of(alloc: Global, script: &'a [u8]) -> Result<Self, AllocError> {
-        let mut begins: Vec<Begin<'a>> = Vec::new(alloc);
-        let mut calls: Vec<Option<Due<'a>>> = Vec::new(alloc);
-        let mut has_exit = false;
+        let mut calls = Calls {
+            begins: Vec::new(alloc),
+            calls: Vec::new(alloc),
+            has_exit: false,
+        };
         for line in Lines::of(script) {
-            let words = Words::of(line.text);
-            match text_at(words, 0) {
-                b"proc" => {
-                    calls.push(None)?;
-                    let name = text_at(words, 1);
-                    let place = calls.len();
-                    begins.push(Begin { name, place })?;
-                    has_exit = false;
-                }
-                b"end" => {
-                    if !has_exit {
-                        let count = 1;
-                        calls.push(Some(Due { line, count }))?;
-                    }
-                }
-                [] | [b'#', ..] => {}
-                _ => {
-                    let call = Call::of(words);
-                    has_exit = call.name() == b"exit".as_slice();
-                    let count = call.count();
-                    calls.push(Some(Due { line, count }))?;
-                }
-            }
+            calls.read(line)?;
         }
-        calls.push(None)?;
-        Ok(Calls { begins, calls })
+        calls.calls.push(None)?;
+        Ok(calls)
+    }
+
+    fn read(&mut self, line: Line<'a>) -> Result<(), AllocError> {
+        let words = Words::of(line.text);
+        match text_at(words, 0) {
+            b"proc" => self.add_block(text_at(words, 1)),
+            b"end" => self.add_end(line),
+            [] | [b'#', ..] => Ok(()),
+            _ => self.add_call(line),
+        }
+    }
+
+    // Behind the calls of the block before.
+    fn add_block(&mut self, name: &'a [u8]) -> Result<(), AllocError> {
+        self.calls.push(None)?;
+        let place = self.calls.len();
+        self.begins.push(Begin { name, place })?;
+        self.has_exit = false;
+        Ok(())
+    }
+
+    // The line `end` stands for the `exit` that is implied there.
+    fn add_end(&mut self, line: Line<'a>) -> Result<(), AllocError> {
+        if !self.has_exit {
+            self.calls.push(Some(Due { line, count: 1 }))?;
+        }
+        Ok(())
+    }
+
+    fn add_call(&mut self, line: Line<'a>) -> Result<(), AllocError> {
+        let call = Call::of(Words::of(line.text));
+        let count = call.count();
+        self.has_exit = call.name() == b"exit".as_slice();
+        self.calls.push(Some(Due { line, count }))?;
+        Ok(())
     }
 
     // The place of the first call of a block.
@@ -214,12 +231,10 @@ impl<'a> Walk<'a> {
         None
     }
 
-    /// The line of the script whose call is due in a process; none behind its last.
-    pub fn line_due(&self, process: &Process<'a>) -> Option<Line<'a>> {
-        match self.calls.due(process) {
-            Some(due) => Some(due.line),
-            None => None,
-        }
+    /// The line of the script whose call is due in the process of this number; none behind its last.
+    pub fn line_due(&self, pid: &[u8]) -> Option<Line<'a>> {
+        let process = self.process(pid)?;
+        Some(self.calls.due(&process)?.line)
     }
 
     /// The number of the first of the processes that haven't ended; 1 where all have.

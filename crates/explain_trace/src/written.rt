@@ -1,62 +1,41 @@
 //! What is told of a line that isn't one of a trace.
 ghost use Rattle.std.specs.Prelude.{◌≡◌};
 
-use crate::fields::{FORM, blocks_of, entry_fault};
+use crate::entry::are_like;
+use crate::fields::{FORM, entry_fault, wrong_blanks};
 use crate::judged::Judged;
-use crate::totals::{totals_in, totals_of, wrong_totals};
-use explain_base::{Fault, Finding, Line, Page, Piece, Span, Text, Totals, Words, Wrong};
+use crate::totals::{is_totals, totals_of, wrong_totals};
+use explain_base::{Fault, Finding, Page, Piece, Span, Text, Totals, Words, Wrong};
+use explain_calls::plain_wrong;
 use std::alloc::Global;
 
 const MAX_LINE: usize = 65536;
 
 const MAX_TRACE: usize = 67108864;
 
-// The digits at the front, where there are some, and what follows.
-fn behind_digits(bytes: &[u8]) -> Option<&[u8]> {
-    let size = bytes
-        .iter()
-        .position(|byte| !byte.is_ascii_digit())
-        .unwrap_or(bytes.len());
-    if size == 0 { None } else { bytes.get(size..) }
-}
-
 // Whether a line is one of those that --steps writes.
 fn is_event(line: &[u8]) -> bool {
-    if let Some(digits) = line.strip_prefix(b"take ") {
-        let Some(rest) = behind_digits(digits) else {
-            return false;
-        };
-        return match rest.strip_prefix(b" from ") {
-            Some(digits) => behind_digits(digits) == Some(b"".as_slice()),
-            None => false,
-        };
-    }
-    let digits = match line.strip_prefix(b"run ") {
-        Some(digits) => Some(digits),
-        None => line.strip_prefix(b"steps "),
-    };
-    match digits {
-        Some(digits) => behind_digits(digits) == Some(b"".as_slice()),
-        None => false,
-    }
+    let words = Words::of(line);
+    let is_one = are_like(words, &["take", "", "from", ""])
+        || are_like(words, &["run", ""])
+        || are_like(words, &["steps", ""]);
+    is_one && wrong_blanks(line).is_none()
 }
 
 // What stands behind the totals, which end a trace.
 fn behind_totals(line: &[u8]) -> Fault<'_> {
-    let span = Span::of(0, line.len().max(1));
-    if is_event(line) {
-        let what = Text::plain("the events that --steps writes are no part of a trace");
-        let expected = Text::plain("the totals end the trace: leave out what is behind them");
-        Fault::new(what, expected, span, Page::Checking)
-    } else {
-        let what = Text::plain("a line stands behind the totals");
-        Fault::new(
-            what,
-            Text::plain("the totals end the trace"),
-            span,
-            Page::Checking,
+    let (what, expected) = if is_event(line) {
+        (
+            "the events that --steps writes are no part of a trace",
+            "the totals end the trace: leave out what is behind them",
         )
-    }
+    } else {
+        (
+            "a line stands behind the totals",
+            "the totals end the trace",
+        )
+    };
+    plain_wrong(what, expected, Span::of(0, line.len().max(1))).fault("", Page::Checking)
 }
 
 // Whether the line before is the totals.
@@ -66,7 +45,7 @@ fn is_behind_totals(judged: Judged<'_>) -> bool {
         return false;
     }
     match judged.lines().numbered(before) {
-        Some(line) => totals_in(line.text).is_some(),
+        Some(line) => is_totals(line.text),
         None => false,
     }
 }
@@ -129,65 +108,66 @@ pub fn not_a_trace(alloc: Global, judged: Judged<'_>) -> Finding<'_>
     if let Some(what) = too_long(judged, line.text.len()) {
         return Finding::without_line(alloc, what, Text::none(), Some(number), Page::Checking);
     }
-    if !line.is_ended {
-        let size = line.text.len();
-        let fault = Fault::new(
-            Text::plain("the last line has no line feed at its end"),
-            Text::plain("a line feed"),
-            Span::of(size, size.saturating_add(1)),
-            Page::Trace,
-        );
-        return Finding::at(alloc, line, fault, None);
-    }
-    let fault = match look(judged, line) {
-        Some(fault) => fault,
-        None => unlike(line),
+    let fault = if line.is_ended {
+        look(judged, line.text)
+    } else {
+        not_ended(line.text.len())
     };
     Finding::at(alloc, line, fault, None)
 }
 
+// A line of that size has no line feed.
+fn not_ended<'a>(size: usize) -> Fault<'a> {
+    let what = "the last line has no line feed at its end";
+    let span = Span::of(size, size.saturating_add(1));
+    plain_wrong(what, "a line feed", span).fault("", Page::Trace)
+}
+
 // Nothing better was found.
-fn unlike(line: Line<'_>) -> Fault<'_> {
+fn unlike(text: &[u8]) -> Fault<'_> {
     let what = Text::plain("the line isn't as the program writes it");
-    let span = Span::of(0, line.text.len());
-    Wrong::new(what, Text::none(), span).fault(FORM, Page::Trace)
+    Wrong::new(what, Text::none(), Span::of(0, text.len())).fault(FORM, Page::Trace)
+}
+
+// A line of that size ends as those of other systems.
+fn with_return<'a>(size: usize) -> Fault<'a> {
+    let what = "a carriage return stands at the line's end";
+    let span = Span::of(size.saturating_sub(1), size);
+    plain_wrong(what, "a line feed alone ends a line", span).fault("", Page::Trace)
+}
+
+// What is wrong with a line that is none by its first word.
+fn no_line(text: &[u8]) -> Option<Fault<'_>> {
+    let due = "a line of the trace";
+    let (what, expected, page) = if Words::of(text).is_empty() {
+        ("a line with no words", due, Page::Trace)
+    } else if text.starts_with(b"#") {
+        ("a trace has no comments", due, Page::Trace)
+    } else if is_word_trace(text) {
+        (
+            "a second line `trace`",
+            "the first line of the trace",
+            Page::Checking,
+        )
+    } else {
+        return None;
+    };
+    Some(plain_wrong(what, expected, Span::of(0, text.len().max(1))).fault(FORM, page))
 }
 
 // The first thing that is wrong with the line's text.
-fn look<'a>(judged: Judged<'a>, line: Line<'a>) -> Option<Fault<'a>> {
-    let text = line.text;
-    let whole = Span::of(0, text.len());
-    let due = Text::plain("a line of the trace");
+fn look<'a>(judged: Judged<'a>, text: &'a [u8]) -> Fault<'a> {
     if text.ends_with(b"\r") {
-        Some(Fault::new(
-            Text::plain("a carriage return stands at the line's end"),
-            Text::plain("a line feed alone ends a line"),
-            Span::of(text.len().saturating_sub(1), text.len()),
-            Page::Trace,
-        ))
-    } else if Words::of(text).is_empty() {
-        let span = Span::of(0, text.len().max(1));
-        let wrong = Wrong::new(Text::plain("a line with no words"), due, span);
-        Some(wrong.fault(FORM, Page::Trace))
-    } else if text.starts_with(b"#") {
-        let wrong = Wrong::new(Text::plain("a trace has no comments"), due, whole);
-        Some(wrong.fault(FORM, Page::Trace))
-    } else if is_word_trace(text) {
-        let first = Text::plain("the first line of the trace");
-        let wrong = Wrong::new(Text::plain("a second line `trace`"), first, whole);
-        Some(wrong.fault(FORM, Page::Checking))
-    } else if text.starts_with(b"tot") {
-        Some(wrong_totals(text, totals_of(judged.lines(), judged.number)))
-    } else {
-        entry_fault(judged.script, text)
+        return with_return(text.len());
     }
+    if text.starts_with(b"tot") {
+        return wrong_totals(text, totals_of(judged.lines(), judged.number));
+    }
+    let found = no_line(text).or(entry_fault(judged.script, text));
+    found.unwrap_or(unlike(text))
 }
 
 /// Whether the only word of a line is `trace`.
 pub fn is_word_trace(line: &[u8]) -> bool {
-    let words = Words::of(line);
-    match words.get(0) {
-        Some(word) => word.text == b"trace".as_slice() && words.get(1).is_none(),
-        None => false,
-    }
+    are_like(Words::of(line), &["trace"])
 }

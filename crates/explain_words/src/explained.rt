@@ -27,140 +27,131 @@ impl<'a> Told<'a> {
             expected,
         }
     }
+
+    /// What has none of the words in it.
+    pub fn plain(place: usize, what: &'static str, expected: &'static str) -> Self {
+        Told::new(place, Text::plain(what), Text::plain(expected))
+    }
 }
 
 fn unknown_word<'a>(given: &Given<'a>) -> Option<Told<'a>> {
     let word = given.unknown?;
     let bytes = word.text.as_bytes();
-    if let Some(alone) = own(word.text) {
-        let what = Text::whole_in("`", bytes, "` stands alone");
-        return Some(Told::new(word.place, what, Text::plain(alone)));
-    }
     if word.text.starts_with("--steps=") {
-        let what = Text::plain("`--steps` takes no value");
-        return Some(Told::new(word.place, what, Text::plain("--steps")));
+        return Some(Told::plain(word.place, "`--steps` takes no value", "--steps"));
     }
-    let options = Text::plain("the options are --seed N and --steps");
-    let expected = Nearest::told(bytes, &OPTIONS, options);
-    let what = Text::whole_in("`", bytes, "` is no option");
-    Some(Told::new(word.place, what, expected))
+    let (behind, expected) = match own(word.text) {
+        Some(alone) => ("` stands alone", Text::plain(alone)),
+        None => {
+            let options = Text::plain("the options are --seed N and --steps");
+            ("` is no option", Nearest::told(bytes, &OPTIONS, options))
+        }
+    };
+    Some(Told::new(word.place, Text::whole_in("`", bytes, behind), expected))
 }
 
 fn wrong_mode<'a>(given: &Given<'a>, count: usize) -> Option<Told<'a>> {
-    let modes = Text::plain(MODES_TEXT);
     let Some(word) = given.first else {
-        return Some(Told::new(count, Text::plain("no mode is named"), modes));
+        return Some(Told::plain(count, "no mode is named", MODES_TEXT));
     };
     if Mode::of(word.text).is_some() {
         return None;
     }
     let bytes = word.text.as_bytes();
-    let what = Text::whole_in("`", bytes, "` is no mode");
-    let expected = Nearest::told(bytes, &MODES, modes);
-    Some(Told::new(word.place, what, expected))
+    let expected = Nearest::told(bytes, &MODES, Text::plain(MODES_TEXT));
+    Some(Told::new(
+        word.place,
+        Text::whole_in("`", bytes, "` is no mode"),
+        expected,
+    ))
 }
 
-// The place of the first option.
-fn first_option(given: &Given) -> Option<usize> {
-    match (given.seed, given.steps) {
-        (Some(seed), Some(steps)) => Some(seed.place.min(steps.place)),
-        (Some(seed), None) => Some(seed.place),
-        (None, Some(steps)) => Some(steps.place),
+// The place of the first option that doesn't go with the mode.
+fn misplaced(given: &Given, mode: &Mode) -> Option<usize> {
+    let seed = match given.seed {
+        Some(seed) if !mode.has_seed => Some(seed.place),
+        _ => None,
+    };
+    match given.steps {
+        Some(steps) if !mode.has_steps => Some(steps.place.min(seed.unwrap_or(steps.place))),
+        _ => seed,
+    }
+}
+
+// An option that doesn't go with the mode.
+fn unlike_mode<'a>(given: &Given<'a>, mode: &Mode) -> Option<Told<'a>> {
+    Some(Told::plain(misplaced(given, mode)?, mode.unlike, mode.form))
+}
+
+// An option that stands twice.
+fn twice<'a>(given: &Given<'a>) -> Option<Told<'a>> {
+    match (given.second_seed, given.second_steps) {
+        (Some(seed), _) => Some(Told::plain(seed.place, "`--seed` stands twice", "one --seed")),
+        (None, Some(steps)) => {
+            Some(Told::plain(steps.place, "`--steps` stands twice", "one --steps"))
+        }
         (None, None) => None,
     }
 }
 
 // An option that stands twice, or doesn't go with the mode.
-fn wrong_option<'a>(given: &Given<'a>, mode: Mode) -> Option<Told<'a>> {
-    if let Some(seed) = given.second_seed {
-        let what = Text::plain("`--seed` stands twice");
-        return Some(Told::new(seed.place, what, Text::plain("one --seed")));
-    }
-    if let Some(steps) = given.second_steps {
-        let what = Text::plain("`--steps` stands twice");
-        return Some(Told::new(steps.place, what, Text::plain("one --steps")));
-    }
-    match mode {
-        Mode::Check => {
-            let what = Text::plain("`check` has no options");
-            let form = Text::plain("./pico check [FILE]");
-            Some(Told::new(first_option(given)?, what, form))
-        }
-        Mode::Run => {
-            let what = Text::plain("`run` has no number: its threads choose");
-            let form = Text::plain("./pico run [--steps] [FILE]");
-            Some(Told::new(given.seed?.place, what, form))
-        }
-        Mode::Simulate | Mode::Generate => None,
+fn wrong_option<'a>(given: &Given<'a>, mode: &Mode) -> Option<Told<'a>> {
+    twice(given).or(unlike_mode(given, mode))
+}
+
+// A word behind the mode that can be no file, by itself.
+fn unlike_file<'a>(mode: &Mode, word: Placed<'a>) -> Option<Told<'a>> {
+    let bytes = word.text.as_bytes();
+    if Mode::of(word.text).is_some() {
+        Some(Told::plain(word.place, "a second mode", mode.alone))
+    } else if !mode.reads {
+        let what = Text::whole_in("`", bytes, "` is too much: `gen` reads no file");
+        let form = Text::plain("./pico gen [--seed N] [--steps]");
+        Some(Told::new(word.place, what, form))
+    } else if word.text.starts_with("-") {
+        let what = Text::whole_in("`", bytes, "` stands behind `--`, where no options are");
+        let expected = Text::whole_in(mode.asked, bytes, " [FILE]");
+        Some(Told::new(word.place, what, expected))
+    } else {
+        None
     }
 }
 
-// A word behind the mode that can be no file.
-fn no_file<'a>(given: &Given<'a>, mode: Mode, word: Placed<'a>) -> Option<Told<'a>> {
-    let bytes = word.text.as_bytes();
-    if Mode::of(word.text).is_some() {
-        let what = Text::plain("a second mode");
-        return Some(Told::new(word.place, what, Text::plain(mode.alone())));
-    }
-    if !mode.reads() {
-        let what = Text::whole_in("`", bytes, "` is too much: `gen` reads no file");
-        let form = Text::plain("./pico gen [--seed N] [--steps]");
-        return Some(Told::new(word.place, what, form));
-    }
-    if word.text.starts_with("-") {
-        let what = Text::whole_in("`", bytes, "` stands behind `--`, where no options are");
-        let expected = Text::whole_in(mode.asked(), bytes, " [FILE]");
-        return Some(Told::new(word.place, what, expected));
-    }
+// A second file.
+fn second_file<'a>(given: &Given<'a>, mode: &Mode) -> Option<Told<'a>> {
     let third = given.third?;
-    let expected = Text::whole_in("one file, as in ", mode.asked().as_bytes(), "FILE");
+    let expected = Text::whole_in("one file, as in ", mode.asked.as_bytes(), "FILE");
     Some(Told::new(third.place, Text::plain("a second file"), expected))
 }
 
 // The file isn't there: with one that is, the words would be in order.
-fn absent_file<'a>(mode: Mode, word: Placed<'a>) -> Told<'a> {
+fn absent_file<'a>(mode: &Mode, word: Placed<'a>) -> Told<'a> {
     let what = Text::whole_in("there is no file `", word.text.as_bytes(), "`");
-    let expected = Text::whole_in(
-        "a file that is there, as in ",
-        mode.asked().as_bytes(),
-        "FILE",
-    );
+    let front = "a file that is there, as in ";
+    let expected = Text::whole_in(front, mode.asked.as_bytes(), "FILE");
     Told::new(word.place, what, expected)
 }
 
 // What is wrong behind the mode.
 fn too_many<'a>(given: &Given<'a>) -> Option<Told<'a>> {
     let mode = Mode::of(given.first?.text)?;
-    let Some(word) = given.second else {
-        return wrong_option(given, mode);
-    };
-    let word_told = no_file(given, mode, word);
-    if word_told.is_some() {
-        return word_told;
+    let option = wrong_option(given, mode);
+    match given.second {
+        Some(word) => {
+            let file = unlike_file(mode, word).or(second_file(given, mode));
+            Some(file.or(option).unwrap_or(absent_file(mode, word)))
+        }
+        None => option,
     }
-    let option_told = wrong_option(given, mode);
-    if option_told.is_some() {
-        return option_told;
-    }
-    Some(absent_file(mode, word))
 }
 
 // The first word that isn't in order.
 fn first_wrong<'a>(given: &Given<'a>, count: usize) -> Told<'a> {
-    if let Some(told) = unknown_word(given) {
-        return told;
-    }
-    if let Some(told) = wrong_mode(given, count) {
-        return told;
-    }
-    if let Some(told) = wrong_seeds(given) {
-        return told;
-    }
-    if let Some(told) = too_many(given) {
-        return told;
-    }
-    let what = Text::plain("the words aren't in order");
-    Told::new(count, what, Text::plain("./pico --help"))
+    let found = unknown_word(given)
+        .or(wrong_mode(given, count))
+        .or(wrong_seeds(given))
+        .or(too_many(given));
+    found.unwrap_or(Told::plain(count, "the words aren't in order", "./pico --help"))
 }
 
 // The words behind the program's name in one line, and the bytes of the one at that place.

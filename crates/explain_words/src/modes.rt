@@ -6,50 +6,72 @@ pub static MODES: [&str; 4] = ["run", "sim", "check", "gen"];
 /// All options.
 pub static OPTIONS: [&str; 6] = ["--seed", "--steps", "--help", "-h", "--version", "--prove"];
 
-/// What the program is asked for.
+/// What the program is asked for: its name, as it is written behind the program's name with a blank at its end, that
+/// there is one mode, whether it reads a file or standard input, which options go with it, and what is told of another.
 #[derive(Clone, Copy)]
-pub enum Mode {
-    Run,
-    Simulate,
-    Check,
-    Generate,
+pub struct Mode {
+    name: &'static str,
+    pub asked: &'static str,
+    pub alone: &'static str,
+    pub reads: bool,
+    pub has_seed: bool,
+    pub has_steps: bool,
+    pub unlike: &'static str,
+    pub form: &'static str,
 }
+
+static ALL: [Mode; 4] = [
+    Mode {
+        name: "run",
+        asked: "./pico run ",
+        alone: "one mode: run",
+        reads: true,
+        has_seed: false,
+        has_steps: true,
+        unlike: "`run` has no number: its threads choose",
+        form: "./pico run [--steps] [FILE]",
+    },
+    Mode {
+        name: "sim",
+        asked: "./pico sim ",
+        alone: "one mode: sim",
+        reads: true,
+        has_seed: true,
+        has_steps: true,
+        unlike: "",
+        form: "",
+    },
+    Mode {
+        name: "check",
+        asked: "./pico check ",
+        alone: "one mode: check",
+        reads: true,
+        has_seed: false,
+        has_steps: false,
+        unlike: "`check` has no options",
+        form: "./pico check [FILE]",
+    },
+    Mode {
+        name: "gen",
+        asked: "./pico gen ",
+        alone: "one mode: gen",
+        reads: false,
+        has_seed: true,
+        has_steps: true,
+        unlike: "",
+        form: "",
+    },
+];
 
 impl Mode {
     /// The mode of this name.
-    pub fn of(name: &str) -> Option<Self> {
-        match name {
-            "run" => Some(Mode::Run),
-            "sim" => Some(Mode::Simulate),
-            "check" => Some(Mode::Check),
-            "gen" => Some(Mode::Generate),
-            _ => None,
+    pub fn of(name: &str) -> Option<&'static Mode> {
+        for mode in &ALL {
+            if mode.name == name {
+                return Some(mode);
+            }
         }
-    }
-
-    /// As it is written behind the program's name, with a blank at its end.
-    pub fn asked(self) -> &'static str {
-        match self {
-            Mode::Run => "./pico run ",
-            Mode::Simulate => "./pico sim ",
-            Mode::Check => "./pico check ",
-            Mode::Generate => "./pico gen ",
-        }
-    }
-
-    /// That there is one mode, and which.
-    pub fn alone(self) -> &'static str {
-        match self {
-            Mode::Run => "one mode: run",
-            Mode::Simulate => "one mode: sim",
-            Mode::Check => "one mode: check",
-            Mode::Generate => "one mode: gen",
-        }
-    }
-
-    /// Whether it reads a file, or standard input.
-    pub fn reads(self) -> bool {
-        !matches!(self, Mode::Generate)
+        None
     }
 }
 

@@ -55,8 +55,8 @@ fn wrong_seed(seed: Seed<'_>) -> Option<Told<'_>> {
 /// The first number that isn't in order.
 pub fn wrong_seeds<'a>(given: &Given<'a>) -> Option<Told<'a>> {
     let first = wrong_seed(given.seed?);
-    if first.is_some() {
-        return first;
+    match given.second_seed {
+        Some(second) => first.or(wrong_seed(second)),
+        None => first,
     }
-    wrong_seed(given.second_seed?)
 }

@@ -19,9 +19,9 @@ use Rattle.script_reader.specs.declared.says.Front.{Front}
 use Rattle.script_reader.specs.declared.says.Front.TheVariants.{Gives, Wrong}
 use Rattle.script_reader.specs.declared.says.Said.{Said}
 use Rattle.script_reader.specs.declared.says.Said.TheVariants.{Unknown, Bad}
-use Rattle.script_reader.specs.declared.verb.Verb.{Verb}
-use Rattle.script_reader.specs.declared.verb.Verb.TheVariants as verbs
-use Rattle.script_reader.specs.Forms.{verb_of}
+use Rattle.call_words.specs.declared.verb.Verb.{Verb}
+use Rattle.call_words.specs.declared.verb.Verb.TheVariants as verbs
+use Rattle.call_words.specs.Verbs.{verb_of}
 use Rattle.script_reader.specs.Words.{lines_of, words_of, words_in}
 use Rattle.script_reader.specs.Parts.{variable}
 use Rattle.script_reader.specs.Says.{names_of, with_opening, opening_at, opened_by, set_at, tries_at, nothing, fork_said, exit_said, other_said, verb_said, named_said, call_said, line_said, words_said, is_comment, said_of}

@@ -1,8 +1,9 @@
 -- A turn of the parts as one of the whole node.
-use Rattle.std.proofs.Common.{◌≡◌, ℕ, zero, suc, ◌≤◌, true, ◌||◌, nat_eq, List, [], ◌∷◌, map, Option, Some, None, IsSome, Result, Ok, Err, OnOk, length, refl, sym, ap, subst, ◌∙◌, arith}
+use Rattle.std.proofs.Common.{◌≡◌, ℕ, zero, suc, ◌+◌, ◌≤◌, true, ◌||◌, nat_eq, List, [], ◌∷◌, map, Option, Some, None, IsSome, Result, Ok, Err, OnOk, length, refl, sym, ap, subst, ◌∙◌, arith}
 use Rattle.std.proofs.lemmas.Bool.{false≢true}
 use Rattle.std.specs.Prelude.{vec_capacity, IfSome}
 use Rattle.pico_base.specs.declared.script.Script.{Script}
+use Rattle.stream_pair.specs.Ends.{after_looks}
 use Rattle.log_model.specs.declared.answer.LogFault.{LogFault}
 use Rattle.world_model.specs.Node.{Node}
 use Rattle.log_model.specs.declared.answer.TurnAnswer.TheVariants.{Idle}
@@ -18,7 +19,7 @@ use Rattle.node_log.specs.declared.logged.Logged.TheInside.{Inside}
 use Rattle.node_log.specs.declared.made.Made.{Made}
 use Rattle.node_log.specs.declared.works.Works.{Works}
 use Rattle.node_log.specs.Inside.{logged_of, IsWhole}
-use Rattle.node_log.specs.Steps.{IsSameSeat, IsWaiting}
+use Rattle.node_log.specs.Steps.{AreIdleTurns, IsIdleTurn, IsSameSeat, IsWaiting}
 use Rattle.node_log.specs.Parts.{IsSamePlace, view_with, answer_after, fault_after, quiet_after}
 use Rattle.node_log.proofs.Places.{count-same, lines-again, lines-same, of_script-after, others-same}
 
@@ -189,3 +190,77 @@ script-idle script old h =
       others = others-same _ _ (lines-silent (after_silences old.silent old.works.lines.items)) ∙ h.others;
       forker = h.forker;
     }
+
+-- ---- turns that found nothing, one behind the other
+
+-- the node after so many of them
+abbrev pub inside_waited : ℕ → Inside → Inside
+inside_waited zero old = old
+inside_waited (suc count) old = inside_idle (inside_waited count old)
+
+-- as it is noted at once
+pub waited-is : (count : ℕ) (old : Inside)
+    → inside_waited count old
+    ≡ record old { silent = count + old.silent; quiet = after_looks count old.quiet }
+waited-is zero old = refl
+waited-is (suc count) old = ap inside_idle (waited-is count old)
+
+waited-works : (count : ℕ) (old : Inside) → (inside_waited count old).works ≡ old.works
+waited-works zero old = refl
+waited-works (suc count) old = waited-works count old
+
+waited-fault : (count : ℕ) (old : Inside) → (inside_waited count old).fault ≡ old.fault
+waited-fault zero old = refl
+waited-fault (suc count) old = waited-fault count old
+
+waited-script : (script : Script) (count : ℕ) (old : Inside) → IsOfScript script (logged_of old)
+    → IsOfScript script (logged_of (inside_waited count old))
+waited-script script zero old h = h
+waited-script script (suc count) old h =
+    script-idle script (inside_waited count old) (waited-script script count old h)
+
+-- one of them
+idle-turn : (script : Script) (old : Inside) → ((fault : LogFault) → old.fault ≡ Some fault → ⊥)
+    → IsSome old.works.node → IfSome old.works.node IsWaiting → IsOfScript script (logged_of old)
+    → IsIdleTurn script (logged_of old) (logged_of (inside_idle old))
+idle-turn script old none whole waits h =
+    let same = same-idle old in
+    record {
+      turned = turned-idle script old none whole waits;
+      of_script = script-idle script old h;
+      number = same.number;
+      lines = same.lines;
+      seat = same.seat;
+    }
+
+-- and so many
+pub waited-turns : (script : Script) (count : ℕ) (old : Inside)
+    → ((fault : LogFault) → old.fault ≡ Some fault → ⊥) → IsSome old.works.node → IfSome old.works.node IsWaiting
+    → IsOfScript script (logged_of old)
+    → AreIdleTurns script count (logged_of old) (logged_of (inside_waited count old))
+waited-turns script zero old none whole waits h = refl
+waited-turns script (suc count) old none whole waits h =
+    let mid = inside_waited count old in
+    let works = waited-works count old in
+    let now : (fault : LogFault) → mid.fault ≡ Some fault → ⊥ =
+    λ fault e. none fault (sym (waited-fault count old) ∙ e)
+    in
+    record {
+      mid = logged_of mid;
+      before = waited-turns script count old none whole waits h;
+      idle =
+          idle-turn script mid now (subst (λ w. IsSome w.node) (sym works) whole)
+          (subst (λ w. IfSome w.node IsWaiting) (sym works) waits) (waited-script script count old h);
+    }
+
+-- noted at once
+pub noted-turns : (script : Script) (count : ℕ) (old : Inside)
+    → ((fault : LogFault) → old.fault ≡ Some fault → ⊥) → IsSome old.works.node → IfSome old.works.node IsWaiting
+    → IsOfScript script (logged_of old)
+    → AreIdleTurns script count (logged_of old)
+    (logged_of (record old { silent = old.silent + count; quiet = after_looks count old.quiet }))
+noted-turns script count old none whole waits h =
+    let sums : count + old.silent ≡ old.silent + count = omega arith in
+    let noted : ℕ → Inside = λ silent. record old { silent = silent; quiet = after_looks count old.quiet } in
+    subst (λ inside. AreIdleTurns script count (logged_of old) (logged_of inside))
+    (waited-is count old ∙ ap noted sums) (waited-turns script count old none whole waits h)

@@ -11,7 +11,7 @@ ghost use Rattle.node_lines.specs.Lines.{AreSameLines};
 ghost use Rattle.node_log.specs.Steps.{AreIdleTurns, IsSameSeat, IsWaiting};
 ghost use Rattle.node_log.specs.Ends.{IsUntaken, line_of, end_of};
 
-use crate::made::{answer_after, answer_of, fault_after, quiet_after};
+use crate::made::{answer_after, answer_of, fault_after, quiet_after, quiet_on};
 use crate::parting::{Finished, Log, Parting};
 use crate::works::Works;
 use host_iface::Gate;
@@ -195,7 +195,7 @@ impl Logged {
         }
         let count = self.works.count_silences(gate, turns, most);
         self.silent += count;
-        self.quiet = self.quiet.saturating_add(count);
+        self.quiet = quiet_on(self.quiet, count);
         count
     }
 

@@ -1,5 +1,6 @@
 //! What a turn of the parts comes to, and what a node that logs makes of that.
 ghost use Rattle.std.specs.Prelude.{◌≡◌};
+ghost use Rattle.stream_pair.specs.Ends.{after_looks};
 ghost use Rattle.log_model.specs.Turns.{answer_of, one_more_quiet};
 ghost use Rattle.node_log.specs.Parts.{answer_after, fault_after, made_of, quiet_after};
 
@@ -67,4 +68,11 @@ pub(crate) fn quiet_after(quiet: u64, turned: &Result<Made, LogFault>) -> u64
         Ok(Made::Nothing) => quiet.saturating_add(1),
         _ => 0,
     }
+}
+
+/// How many turns in a row found nothing, after so many more.
+pub(crate) fn quiet_on(quiet: u64, turns: u64) -> u64
+    ensures { result ≡ after_looks turns quiet }
+{
+    quiet.saturating_add(turns)
 }

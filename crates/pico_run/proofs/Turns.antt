@@ -1,5 +1,5 @@
 -- A node that makes turns in its thread.
-use Rattle.std.proofs.Common.{◌≡◌, ◌≢◌, ℕ, ◌<◌, ◌≤◌, List, [], ◌∷◌, length, map, Option, Some, None, refl, ap, sym, subst, ◌∙◌, slice_index_or}
+use Rattle.std.proofs.Common.{◌≡◌, ◌≢◌, ℕ, ◌<◌, ◌≤◌, zero, suc, List, [], ◌∷◌, length, map, Option, Some, None, refl, ap, sym, subst, ◌∙◌, slice_index_or}
 use Rattle.pico_base.specs.declared.script.Script.{Script}
 use Rattle.journal_core.specs.Seated.{Lock}
 use Rattle.log_model.specs.declared.answer.LogFault.{LogFault}
@@ -10,7 +10,7 @@ use Rattle.log_model.specs.Logged.{IsOfScript}
 use Rattle.log_model.specs.Turns.{IsTurnOrSpent, Turned, TurnsFrom}
 use Rattle.logged_laws.specs.Laws.{TurnsKeepLogs}
 use Rattle.node_lines.specs.Lines.{AreSameLines, IsSameLine}
-use Rattle.node_log.specs.Steps.{IsSameSeat}
+use Rattle.node_log.specs.Steps.{AreIdleTurns, IsSameSeat}
 use Rattle.pico_run.specs.Grid.{Wire, line_wire}
 use Rattle.pico_run.specs.Opened.{AreReady, IsReady}
 use Rattle.pico_run.specs.Turning.{CanTurn, IsTurning, IsWorked, quiet_turns}
@@ -52,6 +52,29 @@ turning-more script lock old now new answer keep t turned of_script lines seat n
       };
     }
 
+-- turns that found nothing, one behind the other
+pub turning-idly : (script : Script) (lock : Lock) (count : ℕ) (old new : LoggedNode) → TurnsKeepLogs
+    → CanTurn script lock old → AreIdleTurns script count old new → IsTurning script lock old new
+turning-idly script lock zero old new keep can idle =
+    subst (λ (l : LoggedNode). IsTurning script lock old l) (sym idle) (turning-start script lock old can)
+turning-idly script lock (suc count) old new keep can idle =
+    turning-more script lock old idle.mid new Idle keep
+    (turning-idly script lock count old idle.mid keep can idle.before) idle.idle.turned idle.idle.of_script
+    idle.idle.lines idle.idle.seat idle.idle.number
+
+-- some turns behind others
+pub turning-on : (script : Script) (lock : Lock) (old now new : LoggedNode) → IsTurning script lock old now
+    → IsTurning script lock now new → IsTurning script lock old new
+turning-on script lock old now new before behind =
+    record {
+      same = record {
+        number = behind.same.number ∙ before.same.number;
+        lock = behind.same.lock ∙ before.same.lock;
+        wires = behind.same.wires ∙ before.same.wires;
+      };
+      can_turn = behind.can_turn;
+    }
+
 -- a thread that leaves as its node is quiet has done its work
 pub worked-quiet : (script : Script) (lock : Lock) (old new : LoggedNode) → IsTurning script lock old new
     → quiet_turns ≤ new.quiet → IsWorked script old new
@@ -79,7 +102,7 @@ spent-or-faulty script old new (StampEnd last) h not_did not_piece not_idle none
     some-is-none : (x : LogFault) → Some x ≡ None → ⊥
     some-is-none x e = cc
 
-faulty : (script : Script) (fault : Option LogFault) (old new : LoggedNode) (answer : TurnAnswer)
+pub faulty : (script : Script) (fault : Option LogFault) (old new : LoggedNode) (answer : TurnAnswer)
     → old.fault ≡ fault → TurnsFrom fault script old new answer → answer ≢ Did → answer ≢ Piece → answer ≢ Idle
     → new.fault ≢ None
 faulty script None old new answer is h not_did not_piece not_idle =
@@ -91,15 +114,10 @@ faulty script (Some x) old new answer is h not_did not_piece not_idle =
     some-is-none x e = cc
 
 -- and one that leaves with a fault
-pub worked-faulty : (script : Script) (lock : Lock) (old now new : LoggedNode) (answer : TurnAnswer)
-    → IsTurning script lock old new → Turned script now new answer → answer ≢ Did → answer ≢ Piece → answer ≢ Idle
-    → IsWorked script old new
-worked-faulty script lock old now new answer t turned not_did not_piece not_idle =
-    record {
-      same = t.same;
-      kept = t.can_turn.kept;
-      quiet = λ none. absurd (faulty script now.fault now new answer refl turned not_did not_piece not_idle none);
-    }
+pub worked-faulty : (script : Script) (lock : Lock) (old new : LoggedNode) → IsTurning script lock old new
+    → new.fault ≢ None → IsWorked script old new
+worked-faulty script lock old new t faulty =
+    record { same = t.same; kept = t.can_turn.kept; quiet = λ none. absurd (faulty none) }
 
 -- ---- all nodes, each in its thread
 

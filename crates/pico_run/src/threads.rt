@@ -33,6 +33,10 @@ const SOME: u64 = 4096;
 /// so many, between which it sleeps. For half a second somebody may still ask it for what it doesn't hold any more.
 const LAST: u64 = 12;
 
+/// After each so many events of its node a thread lets the others on: who waits for an answer of another node may wait
+/// for this processor.
+const MANY: u64 = 64;
+
 /// How many turns a thread has made, and in how many of them its node made an event.
 #[derive(Drop)]
 struct Counts {
@@ -78,6 +82,14 @@ fn rest_at_times<R: Wait>(rt: &R, beds: &Beds, node: Node, logged: &Logged) {
     }
 }
 
+/// Lets the others on after some of the events.
+#[inline(always)]
+fn let_on_at_times(events: u64) {
+    if events % MANY == 0 {
+        thread::yield_now();
+    }
+}
+
 /// Makes turns that find nothing up to the next rest, or one that finds something. The gate is passed before each turn,
 /// and told of each event. Whether the node makes turns yet.
 #[inline(always)]
@@ -109,6 +121,7 @@ fn turn_on<R: Wait, G: Gate>(
             counts.events = counts.events.saturating_add(1);
             gate.did(node, counts.events);
             beds.goes_on();
+            let_on_at_times(counts.events);
             true
         }
         TurnAnswer::Piece => true,

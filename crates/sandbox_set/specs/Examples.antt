@@ -12,7 +12,8 @@ use Rattle.kernel_model.specs.Trace.{entries_total, processes_total, not_ready_t
 use Rattle.script_reader.specs.declared.fault.ScriptFault.TheVariants.{NotUtf8, NoProc, NoEnd, UnknownCall, UnknownProc}
 use Rattle.script_reader.specs.Words.{words_in}
 use Rattle.script_reader.specs.Parts.{cut, each, number, positive, signed, variable, quoted_at, letter, counted, repetition, text}
-use Rattle.script_reader.specs.Forms.{verb_of, identifier, process, optional, two_optional, keyed_queue, private_queue, msgget_of, msgsnd_of, msgrcv_of}
+use Rattle.call_words.specs.Verbs.{verb_of}
+use Rattle.script_reader.specs.Forms.{identifier, process, optional, two_optional, keyed_queue, private_queue, msgget_of, msgsnd_of, msgrcv_of}
 use Rattle.script_reader.specs.Parts as script_parts
 use Rattle.script_reader.specs.Says.{opened_by, number_of, set_at, tries_at, fork_said, other_said, verb_said, call_said, line_said, proc_said, end_said, is_comment, words_said}
 use Rattle.script_reader.specs.Fault as script

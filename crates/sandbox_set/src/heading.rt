@@ -1,16 +1,13 @@
 //! What a line says of sandboxes.
 
 ghost use Rattle.std.specs.Prelude.{◌≡◌, ◌∷◌, option_copied};
-ghost use Rattle.std.specs.List.{list_all};
-ghost use Rattle.kernel_model.specs.Script.{is_name, is_name_byte};
-ghost use Rattle.script_reader.specs.Says.{is_comment as is_comment_of};
 ghost use Rattle.script_reader.specs.Words.{words_of};
 ghost use Rattle.sandbox_set.specs.Boxes as spec;
 
-use script_reader::next_word;
+use script_reader::{is_block_name, is_comment, next_word};
 
 /// What a line is in an input of sandboxes, by its words alone.
-#[derive(Clone, Copy, Debug, PartialEq, Eq)]
+#[derive(Clone, Copy)]
 pub enum Heading {
     /// It has no words, or is a comment.
     Skipped,
@@ -22,16 +19,6 @@ pub enum Heading {
     Proc,
     /// Any other line.
     Other,
-}
-
-#[tactic(auto, unfolding(script_reader::specs::Says::is_comment))]
-fn is_comment(word: &[u8]) -> bool
-    ensures { result ≡ is_comment_of word.now }
-{
-    match word {
-        [] => false,
-        [first, ..] => *first == b'#',
-    }
 }
 
 /// A line by its first word and what follows that.
@@ -62,30 +49,6 @@ pub(crate) fn heading_in(line: &[u8]) -> Heading
     }
 }
 
-fn is_name_part(byte: u8) -> bool
-    ensures { result ≡ is_name_byte byte }
-{
-    byte.is_ascii_lowercase() || byte.is_ascii_digit() || byte == b'_'
-}
-
-fn are_name_parts(bytes: &[u8]) -> bool
-    ensures { result ≡ list_all is_name_byte bytes.now }
-{
-    bytes.iter().all(|b| is_name_part(*b))
-}
-
-/// Whether the word can be a name.
-fn is_sandbox_name(word: &[u8]) -> bool
-    ensures { result ≡ is_name word.now }
-{
-    match word {
-        [] => false,
-        [first, others @ ..] => {
-            first.is_ascii_lowercase() && are_name_parts(others) && others.len() <= 31
-        }
-    }
-}
-
 /// The name in a line `sandbox NAME`.
 #[tactic(auto, unfolding(crate::specs::Boxes::name_in))]
 pub(crate) fn name_in(line: &[u8]) -> Option<&[u8]>
@@ -96,7 +59,7 @@ pub(crate) fn name_in(line: &[u8]) -> Option<&[u8]>
         return None;
     }
     let (name, rest) = next_word(rest)?;
-    if next_word(rest).is_none() && is_sandbox_name(name) {
+    if next_word(rest).is_none() && is_block_name(name) {
         Some(name)
     } else {
         None

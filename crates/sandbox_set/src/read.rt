@@ -1,7 +1,6 @@
 //! Sandboxes, one after the other.
 
-ghost use Rattle.std.specs.Prelude.{◌≡◌, ◌⊎◌, ◌+◌, ◌<◌, ◌≤◌, ◌==◌, ℕ, false, List, Some, None, IfOk, IfErr, Ok, Err, length, count_by};
-ghost use Rattle.std.specs.Str.Lossy.{utf8_valid_len};
+ghost use Rattle.std.specs.Prelude.{◌≡◌, ◌⊎◌, ◌+◌, ◌<◌, ◌≤◌, ℕ, false, List, Some, None, IfOk, IfErr, Ok, Err, length};
 ghost use Rattle.script_reader.specs.Fault.{line_behind};
 ghost use Rattle.script_reader.specs.Words.{lines_of};
 ghost use Rattle.sandbox_set.specs.declared.fault.BoxFault.{BoxFault as FaultValue};
@@ -15,11 +14,10 @@ use crate::fault::{BoxFault, BoxStop};
 use crate::heading::name_in;
 use crate::part::{Part, is_skipped, is_wordless, nodes_with};
 use pico_base::{Bytes, Script, Sequence};
-use script_reader::{ScriptFault, ScriptStop, next_line, read_script};
+use script_reader::{
+    MAX_BYTES, ScriptFault, ScriptStop, line_of_byte, next_line, read_script, valid_len,
+};
 use std::alloc::Global;
-
-/// The longest input.
-const MAX_BYTES: usize = 1_048_576;
 
 /// The most sandboxes of an input.
 const MAX_SANDBOXES: usize = 8;
@@ -270,15 +268,6 @@ fn short_boxes(alloc: Global, bytes: &[u8]) -> Result<Boxes, BoxStop>
     Ok(reading.boxes)
 }
 
-/// How many line feeds there are.
-fn line_feeds(bytes: &[u8]) -> u32
-    requires { length bytes.now ≤ 1048576 }
-    ensures value { result ≡ count_by (λ b. b == 10) bytes.now }
-    ensures small { result ≤ 1048576 }
-{
-    bytes.iter().filter(|b| **b == b'\n').count() as u32
-}
-
 /// A fault of the whole input at the line of the byte behind so many.
 fn at_byte(count: usize, bytes: &[u8], fault: ScriptFault) -> BoxStop
     requires small { count ≤ 1048576 }
@@ -286,18 +275,8 @@ fn at_byte(count: usize, bytes: &[u8], fault: ScriptFault) -> BoxStop
     ensures { result ≡ BoxStop.At (line_behind count bytes.now) (BoxFault.Script fault) }
 {
     BoxStop::At {
-        line: 1 + line_feeds(&bytes[..count]),
+        line: line_of_byte(count, bytes),
         fault: BoxFault::Script(fault),
-    }
-}
-
-/// How many bytes stand before the first one that isn't part of a character.
-fn valid_len(bytes: &[u8]) -> usize
-    ensures { result ≡ utf8_valid_len bytes.now }
-{
-    match std::str::from_utf8(bytes) {
-        Ok(_) => bytes.len(),
-        Err(fault) => fault.valid_up_to(),
     }
 }
 

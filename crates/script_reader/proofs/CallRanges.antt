@@ -10,8 +10,8 @@ use Rattle.pico_base.specs.Options.{◌>>=◌}
 use Rattle.kernel_model.specs.Script as model
 use Rattle.kernel_model.specs.Numbers.{is_u16, is_u32, is_positive_u32}
 use Rattle.kernel_model.specs.Texts.{has_spelling}
-use Rattle.script_reader.specs.declared.verb.Verb.{Verb}
-use Rattle.script_reader.specs.declared.verb.Verb.TheVariants as verbs
+use Rattle.call_words.specs.declared.verb.Verb.{Verb}
+use Rattle.call_words.specs.declared.verb.Verb.TheVariants as verbs
 use Rattle.script_reader.specs.Words.{pieces}
 use Rattle.script_reader.specs.Parts as parts
 use Rattle.script_reader.specs.Parts.{number, positive, signed, each, step, values, text}

@@ -10,15 +10,16 @@ use Rattle.pico_base.specs.declared.call.Call.{Call}
 use Rattle.pico_base.specs.declared.call.Call.TheVariants as calls
 use Rattle.pico_base.specs.declared.script.Line.{Line}
 use Rattle.kernel_model.specs.Script as model
-use Rattle.script_reader.specs.declared.verb.Verb.{Verb}
-use Rattle.script_reader.specs.declared.verb.Verb.TheVariants as verbs
+use Rattle.call_words.specs.declared.verb.Verb.{Verb}
+use Rattle.call_words.specs.declared.verb.Verb.TheVariants as verbs
 use Rattle.script_reader.specs.declared.says.Front.{Front}
 use Rattle.script_reader.specs.declared.says.Front.TheVariants.{Wrong, Gives}
 use Rattle.script_reader.specs.declared.says.Said.{Said}
 use Rattle.script_reader.specs.declared.says.Said.TheVariants.{Skipped, Opens, BadProc, Bad, Forks, Calls}
 use Rattle.script_reader.specs.Words.{words_of}
 use Rattle.script_reader.specs.Parts.{positive, variable}
-use Rattle.script_reader.specs.Forms.{FromCall, verb_of, call_of}
+use Rattle.call_words.specs.Verbs.{verb_of}
+use Rattle.script_reader.specs.Forms.{FromCall, call_of}
 use Rattle.script_reader.specs.Says as says
 use Rattle.script_reader.specs.Says.{number_of, said_of}
 use Rattle.script_reader.proofs.Ranges.{positive_small, variable_small}

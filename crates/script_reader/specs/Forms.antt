@@ -1,43 +1,12 @@
 -- The calls of a script by their words. `VAR =` and `try N` in front of them are said by `Says`.
 use Rattle.std.specs.Prelude.{ℕ, Bool, true, false, ◌&&◌, List, [], ◌∷◌, codes, bytes_eq, if◌then◌else◌, Option, Some, None, option_map}
-use Rattle.std.specs.List.{find}
 use Rattle.pico_base.specs.declared.call.Call.{Call}
 use Rattle.pico_base.specs.declared.call.Call.TheVariants as calls
 use Rattle.pico_base.specs.Options.{◌>>=◌}
 use Rattle.quoted_bytes.specs.Front.{strip}
-use Rattle.script_reader.specs.declared.verb.Verb.{Verb}
-use Rattle.script_reader.specs.declared.verb.Verb.TheVariants as verbs
+use Rattle.call_words.specs.declared.verb.Verb.{Verb}
+use Rattle.call_words.specs.declared.verb.Verb.TheVariants as verbs
 use Rattle.script_reader.specs.Parts.{number, positive, signed, variable, signal, signal_argument, action, how, signal_set, text, step, each, values}
-
--- ---- the names of calls
-
-abbrev pub verb_name : Verb → List ℕ
-verb_name verbs.Fork = codes "fork"
-verb_name verbs.Exit = codes "exit"
-verb_name verbs.GetPid = codes "getpid"
-verb_name verbs.Kill = codes "kill"
-verb_name verbs.SigAction = codes "sigaction"
-verb_name verbs.SigProcMask = codes "sigprocmask"
-verb_name verbs.SigPending = codes "sigpending"
-verb_name verbs.Handled = codes "handled"
-verb_name verbs.WaitPid = codes "waitpid"
-verb_name verbs.MsgGet = codes "msgget"
-verb_name verbs.MsgSnd = codes "msgsnd"
-verb_name verbs.MsgRcv = codes "msgrcv"
-verb_name verbs.MsgCtl = codes "msgctl"
-verb_name verbs.SemGet = codes "semget"
-verb_name verbs.SemOp = codes "semop"
-verb_name verbs.SemCtl = codes "semctl"
-
-abbrev pub all_verbs : List Verb
-all_verbs =
-    verbs.MsgRcv ∷ verbs.MsgSnd ∷ verbs.SemOp ∷ verbs.GetPid ∷ verbs.Fork ∷ verbs.Exit ∷ verbs.Kill ∷ verbs.WaitPid
-    ∷ verbs.MsgGet ∷ verbs.MsgCtl ∷ verbs.SemGet ∷ verbs.SemCtl ∷ verbs.SigAction ∷ verbs.SigProcMask
-    ∷ verbs.SigPending ∷ verbs.Handled ∷ []
-
--- the call that a word names
-unfoldable pub verb_of : List ℕ → Option Verb
-verb_of word = find (λ v. bytes_eq (verb_name v) word) all_verbs
 
 -- ---- arguments
 

@@ -7,13 +7,12 @@ use Rattle.pico_base.specs.declared.signal.Sig.{Sig}
 use Rattle.pico_base.specs.declared.signal.SigArg.{SigArg}
 use Rattle.pico_base.specs.declared.signal.SigArg.TheVariants.{Zero, Is, Bad}
 use Rattle.pico_base.specs.declared.signal.Act.{Act}
-use Rattle.pico_base.specs.declared.signal.Act.TheVariants.{Dfl, Ign, Catch}
 use Rattle.pico_base.specs.declared.signal.How.{How}
-use Rattle.pico_base.specs.declared.signal.How.TheVariants.{Block, Unblock, SetMask}
 use Rattle.pico_base.specs.declared.signal.PerSignal.{PerSignal}
 use Rattle.pico_base.specs.Options.{◌>>=◌}
 use Rattle.pico_base.specs.Signal.{at, put_at, everywhere, all_signals}
 use Rattle.kernel_model.specs.Trace.{signal_name, action_name, how_name}
+use Rattle.call_words.specs.Words.{all_actions, all_hows}
 use Rattle.quoted_bytes.specs.Bytes.{text_byte_at}
 use Rattle.quoted_bytes.specs.Front.{strip}
 use Rattle.script_reader.specs.Words.{pieces}
@@ -95,10 +94,10 @@ signal_argument word =
     else if bytes_eq word (codes "badsig") then Some Bad else option_map Is (signal word)
 
 unfoldable pub action : List ℕ → Option Act
-action word = find (λ a. bytes_eq (action_name a) word) (Dfl ∷ Ign ∷ Catch ∷ [])
+action word = find (λ a. bytes_eq (action_name a) word) all_actions
 
 unfoldable pub how : List ℕ → Option How
-how word = find (λ h. bytes_eq (how_name h) word) (Block ∷ Unblock ∷ SetMask ∷ [])
+how word = find (λ h. bytes_eq (how_name h) word) all_hows
 
 -- the set with the signals of these names, which are different and not in it
 unfoldable pub signals_with : PerSignal Bool → List (List ℕ) → Option (PerSignal Bool)

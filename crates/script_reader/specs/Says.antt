@@ -3,15 +3,16 @@ use Rattle.std.specs.Prelude.{ℕ, ◌+◌, ◌==◌, Bool, false, ◌&&◌, Lis
 use Rattle.std.specs.List.{list_any}
 use Rattle.std.specs.Option.{unwrap_or}
 use Rattle.kernel_model.specs.Script.{is_name}
-use Rattle.script_reader.specs.declared.verb.Verb.{Verb}
-use Rattle.script_reader.specs.declared.verb.Verb.TheVariants as verbs
+use Rattle.call_words.specs.declared.verb.Verb.{Verb}
+use Rattle.call_words.specs.declared.verb.Verb.TheVariants as verbs
 use Rattle.script_reader.specs.declared.says.Front.{Front}
 use Rattle.script_reader.specs.declared.says.Front.TheVariants.{Wrong, Gives}
 use Rattle.script_reader.specs.declared.says.Said.{Said}
 use Rattle.script_reader.specs.declared.says.Said.TheVariants.{Skipped, Opens, BadProc, Ends, Unknown, Bad, Forks, Calls}
 use Rattle.script_reader.specs.Words.{words_of}
 use Rattle.script_reader.specs.Parts.{positive, variable}
-use Rattle.script_reader.specs.Forms.{FromCall, verb_of, call_of}
+use Rattle.call_words.specs.Verbs.{verb_of}
+use Rattle.script_reader.specs.Forms.{FromCall, call_of}
 
 -- ---- the blocks of a text
 

@@ -5,7 +5,8 @@ ghost use Rattle.script_reader.specs.Words.{texts};
 ghost use Rattle.script_reader.specs.Forms as forms;
 
 use crate::numbers::{number, positive};
-use crate::parts::{is_nowait, is_six, variable};
+use crate::parts::{is_nowait, variable};
+use call_words::is_six;
 use pico_base::{Call, Id, Pid, Var};
 use quoted_bytes::strip_front;
 

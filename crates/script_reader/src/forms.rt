@@ -12,7 +12,7 @@ use crate::process_forms::{
 use crate::queue_forms::{put_msgctl, put_msgget, put_msgrcv, put_msgsnd};
 use crate::says::{CallFront, Said};
 use crate::set_forms::{put_semctl, put_semget, put_semop};
-use crate::verb::Verb;
+use call_words::Verb;
 use pico_base::Memory;
 use std::alloc::Global;
 

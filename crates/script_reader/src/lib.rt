@@ -15,7 +15,6 @@ mod script;
 mod set_forms;
 mod tables;
 mod texts;
-mod verb;
 mod words;
 
 pub use checks::MAX_LINE;
@@ -23,6 +22,8 @@ pub use fault::{ScriptFault, ScriptStop};
 // The definitions speak of these.
 pub use place::{Begun, Place};
 pub use says::{Front, Said};
-pub use script::read_script;
-pub use verb::Verb;
+// Other texts that scripts stand in have the same names, comments and lines.
+pub use parts::is_block_name;
+pub use says::is_comment;
+pub use script::{MAX_BYTES, line_of_byte, read_script, valid_len};
 pub use words::{next_line, next_word};

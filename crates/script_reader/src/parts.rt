@@ -4,10 +4,11 @@ ghost use Rattle.std.specs.Prelude.{◌≡◌, ◌≤◌, ◌==◌, [], ◌∷�
 ghost use Rattle.std.specs.List.{list_all, find};
 ghost use Rattle.pico_base.specs.Signal.{everywhere};
 ghost use Rattle.kernel_model.specs.Script.{is_name, is_name_byte};
-ghost use Rattle.kernel_model.specs.Trace.{signal_name, action_name, how_name};
+ghost use Rattle.kernel_model.specs.Trace.{signal_name};
 ghost use Rattle.script_reader.specs.Words.{pieces};
 ghost use Rattle.script_reader.specs.Parts.{cut as cut_of, letter_index as index_of_letter, variable as variable_of, signal as signal_of, signal_argument as signal_argument_of, action as action_of, how as how_of, signals_with, signal_set as signal_set_of};
 
+use call_words::{action_name, how_name, is_four};
 use pico_base::{Act, How, Sig, SigArg, SigSet, Var};
 
 fn first_of(byte: u8, word: &[u8]) -> Option<usize>
@@ -65,8 +66,9 @@ fn are_name_parts(bytes: &[u8]) -> bool
     bytes.iter().all(|b| is_name_part(*b))
 }
 
-/// Whether the word can be a block's name.
-pub(crate) fn is_block_name(word: &[u8]) -> bool
+/// Whether the word can be a block's name: a lower-case letter, and behind it at most 31 lower-case letters, digits
+/// and `_`.
+pub fn is_block_name(word: &[u8]) -> bool
     ensures { result ≡ is_name word.now }
 {
     match word {
@@ -87,64 +89,6 @@ pub(crate) fn is_nowait(word: &[u8]) -> bool
                 & ((*o == b'o') & ((*w == b'w') & ((*a == b'a') & ((*i == b'i') & (*t == b't')))))
         }
         _ => false,
-    }
-}
-
-// Whether a word is this one of so many bytes. The bytes are told one by one, without a call.
-
-pub(crate) fn is_four(name: [u8; 4], word: &[u8]) -> bool
-    ensures { result ≡ bytes_eq name word.now }
-{
-    match word {
-        [a, b, c, d] => {
-            (name[0] == *a) & ((name[1] == *b) & ((name[2] == *c) & (name[3] == *d)))
-        }
-        _ => false,
-    }
-}
-
-pub(crate) fn is_five(name: [u8; 5], word: &[u8]) -> bool
-    ensures { result ≡ bytes_eq name word.now }
-{
-    match word {
-        [a, b, c, d, e] => {
-            (name[0] == *a)
-                & ((name[1] == *b) & ((name[2] == *c) & ((name[3] == *d) & (name[4] == *e))))
-        }
-        _ => false,
-    }
-}
-
-pub(crate) fn is_six(name: [u8; 6], word: &[u8]) -> bool
-    ensures { result ≡ bytes_eq name word.now }
-{
-    match word {
-        [a, b, c, d, e, f] => {
-            (name[0] == *a)
-                & ((name[1] == *b)
-                    & ((name[2] == *c) & ((name[3] == *d) & ((name[4] == *e) & (name[5] == *f)))))
-        }
-        _ => false,
-    }
-}
-
-fn name_of_action(act: Act) -> &'static [u8]
-    ensures { result.now ≡ action_name act }
-{
-    match act {
-        Act::Dfl => b"dfl",
-        Act::Ign => b"ign",
-        Act::Catch => b"catch",
-    }
-}
-
-fn name_of_how(how: How) -> &'static [u8]
-    ensures { result.now ≡ how_name how }
-{
-    match how {
-        How::Block => b"block",
-        How::Unblock => b"unblock",
-        How::SetMask => b"setmask",
     }
 }
 
@@ -201,7 +145,7 @@ pub(crate) fn action(word: &[u8]) -> Option<Act>
     [Act::Dfl, Act::Ign, Act::Catch]
         .iter()
         .copied()
-        .find(|a| name_of_action(*a) == word)
+        .find(|a| action_name(*a) == word)
 }
 
 /// How a mask is to change.
@@ -212,7 +156,7 @@ pub(crate) fn how(word: &[u8]) -> Option<How>
     [How::Block, How::Unblock, How::SetMask]
         .iter()
         .copied()
-        .find(|h| name_of_how(*h) == word)
+        .find(|h| how_name(*h) == word)
 }
 
 /// The set with the signal of this name, which isn't in it yet.

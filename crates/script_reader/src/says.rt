@@ -11,8 +11,8 @@ use crate::numbers::positive;
 use crate::parts::{is_block_name, variable};
 use crate::process_forms::put_exit;
 use crate::tables::Names;
-use crate::verb::Verb;
 use crate::words::{Stops, is_blank, next_word, put_words};
+use call_words::Verb;
 use pico_base::{Bytes, Line, Memory, Var};
 use std::alloc::Global;
 
@@ -275,8 +275,9 @@ fn end_line(words: &[&[u8]]) -> Said
     }
 }
 
+/// Whether the first word of a line makes it a comment: it begins with `#`.
 #[tactic(auto, unfolding(crate::specs::Says::is_comment))]
-fn is_comment(word: &[u8]) -> bool
+pub fn is_comment(word: &[u8]) -> bool
     ensures { result ≡ says.is_comment word.now }
 {
     match word {

@@ -18,8 +18,8 @@ use crate::words::marked_line;
 use pico_base::{Blocks, Memory, Script};
 use std::alloc::Global;
 
-/// The longest script.
-const MAX_BYTES: usize = 1_048_576;
+/// The longest script, in bytes.
+pub const MAX_BYTES: usize = 1_048_576;
 
 /// The names in the lines `proc NAME`.
 fn block_names(alloc: Global, text: &[u8]) -> Result<Names, Memory>
@@ -85,11 +85,20 @@ fn blocks_with(alloc: Global, names: &Names, text: &[u8]) -> Result<Blocks, Scri
 
 /// How many line feeds there are.
 fn line_feeds(bytes: &[u8]) -> u32
-    requires { length bytes.now ≤ 1048576 }
+    requires { length bytes.now ≤ 16777216 }
     ensures value { result ≡ count_by (λ b. b == 10) bytes.now }
-    ensures small { result ≤ 1048576 }
+    ensures small { result ≤ 16777216 }
 {
     bytes.iter().filter(|b| **b == b'\n').count() as u32
+}
+
+/// The number of the line that the byte behind so many stands in. Lines are counted from 1.
+pub fn line_of_byte(count: usize, bytes: &[u8]) -> u32
+    requires small { count ≤ 16777216 }
+    requires within { count ≤ length bytes.now }
+    ensures { result ≡ spec.line_behind count bytes.now }
+{
+    1 + line_feeds(&bytes[..count])
 }
 
 /// A fault at the line of the byte behind so many.
@@ -99,7 +108,7 @@ fn at_byte(count: usize, bytes: &[u8], fault: ScriptFault) -> ScriptStop
     ensures { result ≡ ScriptStop.At (spec.line_behind count bytes.now) fault }
 {
     ScriptStop::At {
-        line: 1 + line_feeds(&bytes[..count]),
+        line: line_of_byte(count, bytes),
         fault,
     }
 }
@@ -115,8 +124,8 @@ fn short_script(alloc: Global, bytes: &[u8]) -> Result<Script, ScriptStop>
     Ok(Script { blocks })
 }
 
-/// How many bytes stand before the first one that isn't part of a character.
-fn valid_len(bytes: &[u8]) -> usize
+/// How many bytes stand before the first one that isn't part of a character, in UTF-8; all, where there is none.
+pub fn valid_len(bytes: &[u8]) -> usize
     ensures { result ≡ utf8_valid_len bytes.now }
 {
     match std::str::from_utf8(bytes) {

@@ -14,12 +14,13 @@ use Rattle.pico_base.specs.declared.script.Script.{Script}
 use Rattle.pico_base.specs.Options.{◌>>=◌}
 use Rattle.kernel_model.specs.Trace as trace
 use Rattle.kernel_model.specs.Trace.{signal_name, action_name, how_name, set_text, values_text}
-use Rattle.script_reader.specs.declared.verb.Verb.{Verb}
-use Rattle.script_reader.specs.declared.verb.Verb.TheVariants as verbs
+use Rattle.call_words.specs.declared.verb.Verb.{Verb}
+use Rattle.call_words.specs.declared.verb.Verb.TheVariants as verbs
 use Rattle.script_reader.specs.Parts as parts
 use Rattle.script_reader.specs.Parts.{number, positive, signed, signal, how, signal_set, text, each, step, values}
 use Rattle.script_reader.specs.Forms as forms
-use Rattle.script_reader.specs.Forms.{FromCall, Object, Child, identifier, process, optional, two_optional, verb_name, verb_of, call_of}
+use Rattle.call_words.specs.Verbs.{verb_name, verb_of}
+use Rattle.script_reader.specs.Forms.{FromCall, Object, Child, identifier, process, optional, two_optional, call_of}
 use Rattle.script_reader.proofs.Ranges.{if_bind, if_map, if_cond}
 use Rattle.script_reader.proofs.Widths.{width}
 use Rattle.script_speller.specs.Spelling.{object_text, child_word, message_word, step_word, flag_words, call_name, arguments}

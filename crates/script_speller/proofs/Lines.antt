@@ -11,8 +11,8 @@ use Rattle.pico_base.specs.declared.script.Script.{Script}
 use Rattle.kernel_model.specs.Script.{is_lower, is_name_byte, is_name}
 use Rattle.kernel_model.specs.Fitting.{block_at}
 use Rattle.kernel_model.specs.Trace.{name_of_block}
-use Rattle.script_reader.specs.declared.verb.Verb.{Verb}
-use Rattle.script_reader.specs.declared.verb.Verb.TheVariants as verbs
+use Rattle.call_words.specs.declared.verb.Verb.{Verb}
+use Rattle.call_words.specs.declared.verb.Verb.TheVariants as verbs
 use Rattle.script_reader.specs.declared.says.Front.{Front}
 use Rattle.script_reader.specs.declared.says.Front.TheVariants.{Wrong, Gives}
 use Rattle.script_reader.specs.declared.says.Said.{Said}
@@ -20,7 +20,8 @@ use Rattle.script_reader.specs.declared.says.Said.TheVariants.{Skipped, BadProc,
 use Rattle.script_reader.specs.Words.{words_of}
 use Rattle.script_reader.specs.Words.Stretch.{plain}
 use Rattle.script_reader.specs.Parts.{positive, variable}
-use Rattle.script_reader.specs.Forms.{FromCall, verb_name, verb_of, all_verbs, call_of}
+use Rattle.call_words.specs.Verbs.{verb_name, verb_of, all_verbs}
+use Rattle.script_reader.specs.Forms.{FromCall, call_of}
 use Rattle.script_reader.specs.Says as says
 use Rattle.script_reader.specs.Says.{number_of, said_of}
 use Rattle.script_reader.specs.Fault.{is_call, fork_line, node_of}

@@ -9,10 +9,11 @@ use crate::words::{
     push_class, push_decimal, push_flag, push_message, push_object, push_set_word, push_steps,
     push_value_word, push_word,
 };
+use call_words::{action_name, how_name, signal_argument, signal_name};
 use pico_base::{
     Act, Call, How, Id, Key, Memory, Node, Pid, Script, SemStep, Sig, SigArg, SigSet, Var,
 };
-use trace_text::{action_name, how_name, push, signal_argument, signal_name};
+use trace_text::push;
 
 /// The name of a block behind a blank; nothing behind it where there is no such block.
 fn push_block_name(out: &mut Vec<u8>, script: &Script, block: Node) -> Result<(), Memory>

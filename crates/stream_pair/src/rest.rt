@@ -4,7 +4,7 @@ ghost use Rattle.std.specs.Prelude.{◌≡◌, ◌++◌, [], ◌∷◌, MatchOpt
 use crate::inlet::In;
 use crate::order::{Meets, Pass, TakesOn};
 use crate::outlet::Out;
-use crate::piece::Piece;
+use crate::piece::{Parcel, Piece};
 use crate::stream::Stream;
 use std::alloc::Global;
 use std::marker::Model;
@@ -42,12 +42,21 @@ pub fn settle<R: Wait>(rt: &R, out: Out, into: In) -> Rest
     Rest { stream, pass }
 }
 
+/// The piece that a parcel is, where there is one.
+fn piece_of(parcel: Option<Parcel>) -> Option<Piece>
+    ensures { result ≡ parcel }
+{
+    match parcel {
+        Some(parcel) => Some(parcel.into_piece()),
+        None => None,
+    }
+}
+
 impl Rest {
     /// The next piece of the rest. None exactly at its end. It takes no memory.
     pub fn next<R: Wait>(&mut self, rt: &R) -> Option<Piece>
         ensures { MatchOption result ((self.old ≡ []) × (self.new ≡ [])) (λ p. self.old ≡ p ∷ self.new) }
     {
-        let parcel = self.stream.queue.pop_as::<TakesOn, R>(rt, &mut self.pass)?;
-        Some(parcel.into_piece())
+        piece_of(self.stream.queue.pop_as::<TakesOn, R>(rt, &mut self.pass))
     }
 }

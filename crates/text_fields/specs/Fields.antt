@@ -5,16 +5,15 @@ use Rattle.pico_base.specs.declared.call.SemStep.{SemStep}
 use Rattle.pico_base.specs.declared.reply.Errno.{Errno}
 use Rattle.pico_base.specs.declared.reply.Errno.TheVariants.{Esrch, Einval, Echild, Enoent, Eexist, Enomsg, Eagain, E2big, Efbig, Erange, Eidrm, Eintr}
 use Rattle.pico_base.specs.declared.signal.Sig.{Sig}
-use Rattle.pico_base.specs.declared.signal.Sig.TheVariants.{Hup, Int, Quit, Kill, Usr1, Usr2, Pipe, Alrm, Term, Chld}
 use Rattle.pico_base.specs.declared.signal.SigArg.{SigArg}
 use Rattle.pico_base.specs.declared.signal.SigArg.TheVariants.{Zero, Is, Bad}
 use Rattle.pico_base.specs.declared.signal.Act.{Act}
-use Rattle.pico_base.specs.declared.signal.Act.TheVariants.{Dfl, Ign, Catch}
 use Rattle.pico_base.specs.declared.signal.How.{How}
-use Rattle.pico_base.specs.declared.signal.How.TheVariants.{Block, Unblock, SetMask}
 use Rattle.pico_base.specs.declared.signal.PerSignal.{PerSignal}
 use Rattle.pico_base.specs.Options.{◌>>=◌}
-use Rattle.pico_base.specs.Signal.{put_at, everywhere}
+use Rattle.pico_base.specs.Signal.{put_at, everywhere, all_signals}
+use Rattle.kernel_model.specs.Trace.{signal_name, action_name, how_name, error_name}
+use Rattle.call_words.specs.Words.{all_actions, all_hows}
 use Rattle.quoted_bytes.specs.Bytes.{text_byte_at}
 use Rattle.quoted_bytes.specs.Front.{strip}
 
@@ -71,33 +70,18 @@ flag_of (Some rest) bytes = (true, rest)
 unfoldable pub flag_at : List ℕ → List ℕ → Bool × List ℕ
 flag_at word bytes = flag_of (strip word bytes) bytes
 
--- the value of the first name of a table that stands at the front
-unfoldable pub named_at : {A : Type 0} → List (List ℕ × A) → List ℕ → Option (A × List ℕ)
-named_at [] bytes = None
-named_at (row ∷ rows) bytes =
-    option_map_or (λ rest. Some (row.1, rest)) (strip row.0 bytes) (named_at rows bytes)
+-- the first of these values whose name stands at the front
+unfoldable pub named_at : {A : Type 0} → (A → List ℕ) → List A → List ℕ → Option (A × List ℕ)
+named_at name [] bytes = None
+named_at name (x ∷ xs) bytes = option_map_or (λ rest. Some (x, rest)) (strip (name x) bytes) (named_at name xs bytes)
 
-abbrev pub signals : List (List ℕ × Sig)
-signals =
-    (codes "HUP", Hup) ∷ (codes "INT", Int) ∷ (codes "QUIT", Quit) ∷ (codes "KILL", Kill) ∷ (codes "USR1", Usr1)
-    ∷ (codes "USR2", Usr2) ∷ (codes "PIPE", Pipe) ∷ (codes "ALRM", Alrm) ∷ (codes "TERM", Term) ∷ (codes "CHLD", Chld)
-    ∷ []
-
-abbrev pub errors : List (List ℕ × Errno)
-errors =
-    (codes "ESRCH", Esrch) ∷ (codes "EINVAL", Einval) ∷ (codes "ECHILD", Echild) ∷ (codes "ENOENT", Enoent)
-    ∷ (codes "EEXIST", Eexist) ∷ (codes "ENOMSG", Enomsg) ∷ (codes "EAGAIN", Eagain) ∷ (codes "E2BIG", E2big)
-    ∷ (codes "EFBIG", Efbig) ∷ (codes "ERANGE", Erange) ∷ (codes "EIDRM", Eidrm) ∷ (codes "EINTR", Eintr) ∷ []
-
-abbrev pub actions : List (List ℕ × Act)
-actions = (codes "dfl", Dfl) ∷ (codes "ign", Ign) ∷ (codes "catch", Catch) ∷ []
-
-abbrev pub hows : List (List ℕ × How)
-hows = (codes "block", Block) ∷ (codes "unblock", Unblock) ∷ (codes "setmask", SetMask) ∷ []
+abbrev pub all_errors : List Errno
+all_errors =
+    Esrch ∷ Einval ∷ Echild ∷ Enoent ∷ Eexist ∷ Enomsg ∷ Eagain ∷ E2big ∷ Efbig ∷ Erange ∷ Eidrm ∷ Eintr ∷ []
 
 -- a signal; 0, a signal or `badsig`; an action; how a mask changes; an error
 abbrev pub signal_at : List ℕ → Option (Sig × List ℕ)
-signal_at bytes = named_at signals bytes
+signal_at bytes = named_at signal_name all_signals bytes
 
 unfoldable pub argument_at : List ℕ → Option (SigArg × List ℕ)
 argument_at bytes =
@@ -106,13 +90,13 @@ argument_at bytes =
     (option_map (λ (g : Sig × List ℕ). (Is g.0, g.1)) (signal_at bytes)))
 
 abbrev pub action_at : List ℕ → Option (Act × List ℕ)
-action_at bytes = named_at actions bytes
+action_at bytes = named_at action_name all_actions bytes
 
 abbrev pub how_at : List ℕ → Option (How × List ℕ)
-how_at bytes = named_at hows bytes
+how_at bytes = named_at how_name all_hows bytes
 
 abbrev pub error_at : List ℕ → Option (Errno × List ℕ)
-error_at bytes = named_at errors bytes
+error_at bytes = named_at error_name all_errors bytes
 
 -- Lists.
 

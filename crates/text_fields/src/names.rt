@@ -1,6 +1,6 @@
 //! Words and names at the front of a text.
 ghost use Rattle.std.specs.Prelude.{◌≡◌, ◌==◌, length, position, codes, option_map};
-ghost use Rattle.text_fields.specs.Fields.{word_at, flag_at, named_at, signal_at, argument_at, action_at, how_at, error_at, signals, errors};
+ghost use Rattle.text_fields.specs.Fields.{word_at, flag_at, named_at, signal_at, argument_at, action_at, how_at, error_at};
 
 use pico_base::{Act, Errno, How, Sig, SigArg};
 use quoted_bytes::strip_front;

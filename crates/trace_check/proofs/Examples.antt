@@ -8,7 +8,8 @@ use Rattle.kernel_model.specs.Trace.{set_text, entries_total, processes_total, n
 use Rattle.quoted_bytes.specs.Front.{strip}
 use Rattle.text_fields.specs.Fields.{digit_at, digits_front, number_at, signed_at, word_at, flag_at, named_at, argument_at, many, quoted_at, repeated_at, repetition_at, text_at, set_at}
 use Rattle.text_fields.specs.Bytes.{hex_at, escape_at, text_byte_at}
-use Rattle.trace_text.specs.Reading.{verb_of, exit_at, options_at, msgget_key_at, msgget_at, object_at, msgsnd_at, msgrcv_at, call_at, exited_at, ended_by_at, message_at, numbered_at, negative_at, stat_at, all_values_at, word_reply_at, reply_at, made_at, by_at, entry_at, entry_in}
+use Rattle.call_words.specs.Verbs.{verb_of}
+use Rattle.trace_text.specs.Reading.{exit_at, options_at, msgget_key_at, msgget_at, object_at, msgsnd_at, msgrcv_at, call_at, exited_at, ended_by_at, message_at, numbered_at, negative_at, stat_at, all_values_at, word_reply_at, reply_at, made_at, by_at, entry_at, entry_in}
 use Rattle.trace_text.specs.declared.fault.CheckFault.TheVariants.{NotATrace, Illegal, NotTheScript}
 use Rattle.trace_check.specs.FirstFault.{judge_from, verdict_of}
 

@@ -19,7 +19,8 @@ use Rattle.quoted_bytes.specs.Front.{strip}
 use Rattle.text_fields.specs.Fields.{word_length, word_at}
 use Rattle.text_fields.proofs.Spelled.{IsStep}
 use Rattle.trace_text.specs.Grammar.{is_call, is_text, is_block}
-use Rattle.trace_text.specs.Reading.{verb_of, block_named, fork_at, exit_at, killed_at, handled_at, kill_at, sigaction_at, sigprocmask_at, waitpid_at, msgget_at, msgsnd_at, msgrcv_at, msgctl_at, semget_at, semop_at, semctl_at, call_at}
+use Rattle.call_words.specs.Verbs.{verb_of}
+use Rattle.trace_text.specs.Reading.{block_named, fork_at, exit_at, killed_at, handled_at, kill_at, sigaction_at, sigprocmask_at, waitpid_at, msgget_at, msgsnd_at, msgrcv_at, msgctl_at, semget_at, semop_at, semctl_at, end_by_signal_at, call_at}
 use Rattle.trace_text.proofs.Ranges.{u32-bound, u16-bound, type-within, step-within, all-from, text-in-range}
 use Rattle.trace_text.proofs.CallLaws.{tail, exit-again, killed-again, handled-again, kill-again, sigaction-again, sigprocmask-again, wait-any-again, wait-again, msgget-private-again, msgget-again, msgsnd-again, msgrcv-again, msgstat-again, msgrmid-again, msgqbytes-again, semget-private-again, semget-again, semop-again, getall-again, removal-again, getval-again, getpid-again, getncnt-again, getzcnt-again, set-value-again, set-all-again}
 
@@ -70,7 +71,7 @@ module _ (script : Script) (rest : List ℕ) where
   at-exit = rw (word-ends (codes "exit") rest refl) refl
 
   at-killed : call_at script (codes "killed " ++ rest) ≡ killed_at rest
-  unfolding call_at verb_of strip
+  unfolding call_at verb_of end_by_signal_at strip
   at-killed = rw (word-ends (codes "killed") rest refl) refl
 
   at-getpid : call_at script (codes "getpid" ++ 32 ∷ rest) ≡ Some (calls.GetPid, 32 ∷ rest)

@@ -14,36 +14,16 @@ use Rattle.pico_base.specs.declared.script.Script.{Script}
 use Rattle.pico_base.specs.Options.{◌>>=◌}
 use Rattle.kernel_model.specs.Effect.{reply_alone}
 use Rattle.kernel_model.specs.Trace.{entry_line}
+use Rattle.call_words.specs.Verbs.{verb_of}
+use Rattle.call_words.specs.declared.verb.Verb.{Verb}
+use Rattle.call_words.specs.declared.verb.Verb.TheVariants as verbs
 use Rattle.quoted_bytes.specs.Front.{strip}
 use Rattle.trace_text.specs.Grammar.{is_entry}
-use Rattle.trace_text.specs.declared.verbs.Verb.{Verb}
-use Rattle.trace_text.specs.declared.verbs.Verb.TheVariants as verbs
 use Rattle.text_fields.specs.Fields.{number_at, signed_at, word_at, flag_at, signal_at, argument_at, action_at, how_at, error_at, steps_at, values_at, set_at, text_at}
 
 -- a part of a line, with what follows it
 abbrev pub Part : Type 0 → Type 0
 Part A = Option (A × List ℕ)
-
--- the word that names a call
-unfoldable pub verb_of : List ℕ → Option Verb
-verb_of word =
-    if bytes_eq word (codes "fork") then Some verbs.Fork else
-    if bytes_eq word (codes "exit") then Some verbs.Exit else
-    if bytes_eq word (codes "killed") then Some verbs.Killed else
-    if bytes_eq word (codes "getpid") then Some verbs.GetPid else
-    if bytes_eq word (codes "kill") then Some verbs.Kill else
-    if bytes_eq word (codes "sigaction") then Some verbs.SigAction else
-    if bytes_eq word (codes "sigprocmask") then Some verbs.SigProcMask else
-    if bytes_eq word (codes "sigpending") then Some verbs.SigPending else
-    if bytes_eq word (codes "handled") then Some verbs.Handled else
-    if bytes_eq word (codes "waitpid") then Some verbs.WaitPid else
-    if bytes_eq word (codes "msgget") then Some verbs.MsgGet else
-    if bytes_eq word (codes "msgsnd") then Some verbs.MsgSnd else
-    if bytes_eq word (codes "msgrcv") then Some verbs.MsgRcv else
-    if bytes_eq word (codes "msgctl") then Some verbs.MsgCtl else
-    if bytes_eq word (codes "semget") then Some verbs.SemGet else
-    if bytes_eq word (codes "semop") then Some verbs.SemOp else
-    if bytes_eq word (codes "semctl") then Some verbs.SemCtl else None
 
 -- Arguments behind the call's name and a blank.
 
@@ -237,7 +217,6 @@ semctl_at bytes = do
 abbrev pub arguments_at : Script → Verb → List ℕ → Part Call
 arguments_at script verbs.Fork bytes = fork_at script bytes
 arguments_at script verbs.Exit bytes = exit_at bytes
-arguments_at script verbs.Killed bytes = killed_at bytes
 arguments_at script verbs.Kill bytes = kill_at bytes
 arguments_at script verbs.SigAction bytes = sigaction_at bytes
 arguments_at script verbs.SigProcMask bytes = sigprocmask_at bytes
@@ -258,7 +237,6 @@ call_by script verbs.GetPid rest = Some (calls.GetPid, rest)
 call_by script verbs.SigPending rest = Some (calls.SigPending, rest)
 call_by script verbs.Fork rest = strip (codes " ") rest >>= arguments_at script verbs.Fork
 call_by script verbs.Exit rest = strip (codes " ") rest >>= arguments_at script verbs.Exit
-call_by script verbs.Killed rest = strip (codes " ") rest >>= arguments_at script verbs.Killed
 call_by script verbs.Kill rest = strip (codes " ") rest >>= arguments_at script verbs.Kill
 call_by script verbs.SigAction rest = strip (codes " ") rest >>= arguments_at script verbs.SigAction
 call_by script verbs.SigProcMask rest = strip (codes " ") rest >>= arguments_at script verbs.SigProcMask
@@ -272,9 +250,14 @@ call_by script verbs.SemGet rest = strip (codes " ") rest >>= arguments_at scrip
 call_by script verbs.SemOp rest = strip (codes " ") rest >>= arguments_at script verbs.SemOp
 call_by script verbs.SemCtl rest = strip (codes " ") rest >>= arguments_at script verbs.SemCtl
 
+-- the end by a signal, where this is its word: it stands in a call's place, and no script calls it
+unfoldable pub end_by_signal_at : List ℕ → List ℕ → Part Call
+end_by_signal_at word rest = if bytes_eq word (codes "killed") then strip (codes " ") rest >>= killed_at else None
+
 unfoldable pub call_at : Script → List ℕ → Part Call
 call_at script bytes =
-    let word = word_at bytes in option_map_or (λ verb. call_by script verb word.1) (verb_of word.0) None
+    let word = word_at bytes in
+    option_map_or (λ verb. call_by script verb word.1) (verb_of word.0) (end_by_signal_at word.0 word.1)
 
 -- Replies.
 

@@ -4,7 +4,7 @@ ghost use Rattle.pico_base.specs.declared.call.Call.TheVariants.{SemGetVal, SemG
 ghost use Rattle.text_fields.specs.Fields.{number_at};
 ghost use Rattle.trace_text.specs.Reading as reading;
 
-use crate::verbs::{Verb, verb_named};
+use call_words::Verb;
 use pico_base::{Block, Call, Id, Key, Memory, Node, Pid, Script};
 use quoted_bytes::strip_front;
 use std::alloc::Global;
@@ -433,7 +433,6 @@ fn arguments<'a>(
     match verb {
         Verb::Fork => Ok(fork(script, bytes)),
         Verb::Exit => Ok(exit(bytes)),
-        Verb::Killed => Ok(killed(bytes)),
         Verb::Kill => Ok(kill(bytes)),
         Verb::SigAction => Ok(sigaction(bytes)),
         Verb::SigProcMask => Ok(sigprocmask(bytes)),
@@ -470,6 +469,18 @@ fn named<'a>(
     }
 }
 
+/// The end by a signal, where this is its word. A trace has it in a call's place, and no script calls it.
+#[tactic(auto, unfolding(crate::specs::Reading::end_by_signal_at))]
+fn end_by_signal<'a>(word: &[u8], bytes: &'a [u8]) -> Read<'a>
+    ensures { option_map (λ x. (x.0, x.1.now)) result ≡ reading.end_by_signal_at word.now bytes.now }
+{
+    if word == b"killed".as_slice() {
+        killed(strip_front(bytes, b" ")?)
+    } else {
+        None
+    }
+}
+
 /// The call that is named at the front, with its arguments.
 #[tactic(auto, unfolding(crate::specs::Reading::call_at))]
 pub(crate) fn call_front<'a>(
@@ -481,8 +492,8 @@ pub(crate) fn call_front<'a>(
     ensures { IfOk result (λ call. option_map (λ x. (x.0, x.1.now)) call ≡ reading.call_at script.now bytes.now) }
 {
     let (word, rest) = word_front(bytes);
-    match verb_named(word) {
+    match Verb::named(word) {
         Some(verb) => named(alloc, script, verb, rest),
-        None => Ok(None),
+        None => Ok(end_by_signal(word, rest)),
     }
 }

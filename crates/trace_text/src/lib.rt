@@ -18,13 +18,12 @@ mod replies;
 mod steps;
 mod text;
 mod totals;
-mod verbs;
 
 pub use entries::{entry_in, is_line};
 pub use fault::CheckFault;
 pub use fields::push_values;
 pub use grammar::{is_call, is_reply};
-pub use names::{action_name, how_name, push_set, signal_argument, signal_name};
+pub use names::push_set;
 pub use print::{push_entries, write_trace};
 pub use print_calls::push_call;
 pub use print_replies::push_reply;

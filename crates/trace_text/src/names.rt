@@ -1,4 +1,4 @@
-//! The names of signals, errors, actions and changes of a mask, and the text of a set of signals.
+//! The names of signals, errors, actions and changes of a mask added to a text, and the text of a set of signals.
 ghost use Rattle.std.specs.Prelude.{◌≡◌, [], ◌∷◌, ◌++◌, map, if◌then◌else◌, IfOk, OnOk};
 ghost use Rattle.std.specs.List.{filter, list_any};
 ghost use Rattle.pico_base.specs.Signal.{at, all_signals};
@@ -6,24 +6,6 @@ ghost use Rattle.kernel_model.specs.Trace as trace;
 
 use crate::text::{push, push_byte};
 use pico_base::{Act, Errno, How, Memory, SIGNALS, Sig, SigArg, SigSet};
-
-/// A signal's name.
-pub fn signal_name(sig: Sig) -> &'static [u8]
-    ensures { result.now ≡ trace.signal_name sig }
-{
-    match sig {
-        Sig::Hup => b"HUP",
-        Sig::Int => b"INT",
-        Sig::Quit => b"QUIT",
-        Sig::Kill => b"KILL",
-        Sig::Usr1 => b"USR1",
-        Sig::Usr2 => b"USR2",
-        Sig::Pipe => b"PIPE",
-        Sig::Alrm => b"ALRM",
-        Sig::Term => b"TERM",
-        Sig::Chld => b"CHLD",
-    }
-}
 
 // Adds a signal's name. Here and below a name is added as a constant: bytes of a number known to the compiler are
 // stored, and others are copied by a call.
@@ -65,17 +47,6 @@ pub(crate) fn push_error_name(out: &mut Vec<u8>, errno: Errno) -> Result<(), Mem
     }
 }
 
-/// The name of what a signal does: `dfl`, `ign` or `catch`.
-pub fn action_name(act: Act) -> &'static [u8]
-    ensures { result.now ≡ trace.action_name act }
-{
-    match act {
-        Act::Dfl => b"dfl",
-        Act::Ign => b"ign",
-        Act::Catch => b"catch",
-    }
-}
-
 pub(crate) fn push_action_name(out: &mut Vec<u8>, act: Act) -> Result<(), Memory>
     ensures { OnOk result (out.new.items ≡ out.old.items ++ trace.action_name act) }
 {
@@ -86,17 +57,6 @@ pub(crate) fn push_action_name(out: &mut Vec<u8>, act: Act) -> Result<(), Memory
     }
 }
 
-/// The name of how a mask changes: `block`, `unblock` or `setmask`.
-pub fn how_name(how: How) -> &'static [u8]
-    ensures { result.now ≡ trace.how_name how }
-{
-    match how {
-        How::Block => b"block",
-        How::Unblock => b"unblock",
-        How::SetMask => b"setmask",
-    }
-}
-
 pub(crate) fn push_how_name(out: &mut Vec<u8>, how: How) -> Result<(), Memory>
     ensures { OnOk result (out.new.items ≡ out.old.items ++ trace.how_name how) }
 {
@@ -104,17 +64,6 @@ pub(crate) fn push_how_name(out: &mut Vec<u8>, how: How) -> Result<(), Memory>
         How::Block => push(out, b"block"),
         How::Unblock => push(out, b"unblock"),
         How::SetMask => push(out, b"setmask"),
-    }
-}
-
-/// A signal as a call names it: its name, `0` for none, or `badsig` for a number of no signal.
-pub fn signal_argument(sig: SigArg) -> &'static [u8]
-    ensures { result.now ≡ trace.signal_argument sig }
-{
-    match sig {
-        SigArg::Zero => b"0",
-        SigArg::Is(sig) => signal_name(sig),
-        SigArg::Bad => b"badsig",
     }
 }
 

@@ -99,7 +99,7 @@ fn refusals_of(outcome: &Outcome) -> Refusals
 
 /// What the totals line counts of a history so far: its entries, those that fork, the replies that nothing was ready
 /// (ENOMSG and EAGAIN), and the other refusals. The entries themselves needn't be kept.
-#[derive(Clone, Copy, Debug, PartialEq, Eq)]
+#[derive(Clone, Copy)]
 pub struct Tally {
     pub(crate) entries: u64,
     pub(crate) forks: u64,

@@ -14,4 +14,4 @@ invariant_of-self g c =
     (search rules, takes_leave_both_ends _ _ c.pop_as.result _ c.self.invariant.1 told)
 
 pub returns : goal.returns
-returns g c = rw (← c.self.view_is) (takes_come_off_the_front _ _ c.pop_as.result _ c.pop_as.ensures.rule)
+returns g c = rw (← c.self.view_is, c.piece_of.ensures) (takes_come_off_the_front _ _ c.pop_as.result _ c.pop_as.ensures.rule)

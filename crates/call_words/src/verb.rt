@@ -2,12 +2,12 @@
 
 ghost use Rattle.std.specs.Prelude.{◌≡◌, bytes_eq, drop};
 ghost use Rattle.std.specs.List.{find};
-ghost use Rattle.script_reader.specs.Forms.{all_verbs, verb_name, verb_of};
+ghost use Rattle.call_words.specs.Verbs.{all_verbs, verb_name, verb_of};
 
-use crate::parts::{is_five, is_four, is_six};
+use crate::same::{is_five, is_four, is_six};
 
-/// What the first word of a call names.
-#[derive(Clone, Copy, PartialEq, Eq)]
+/// What the first word of a call names, in a script and in a trace.
+#[derive(Clone, Copy)]
 pub enum Verb {
     Fork,
     Exit,
@@ -33,15 +33,7 @@ impl Verb {
     fn named_seldom(word: &[u8]) -> Option<Verb>
         ensures { result ≡ find (λ v. bytes_eq (verb_name v) word.now) (drop 8 all_verbs) }
     {
-        if is_six(*b"msgget", word) {
-            Some(Verb::MsgGet)
-        } else if is_six(*b"msgctl", word) {
-            Some(Verb::MsgCtl)
-        } else if is_six(*b"semget", word) {
-            Some(Verb::SemGet)
-        } else if is_six(*b"semctl", word) {
-            Some(Verb::SemCtl)
-        } else if b"sigaction".as_slice() == word {
+        if b"sigaction".as_slice() == word {
             Some(Verb::SigAction)
         } else if b"sigprocmask".as_slice() == word {
             Some(Verb::SigProcMask)
@@ -49,15 +41,23 @@ impl Verb {
             Some(Verb::SigPending)
         } else if b"handled".as_slice() == word {
             Some(Verb::Handled)
+        } else if is_six(*b"msgget", word) {
+            Some(Verb::MsgGet)
+        } else if is_six(*b"msgctl", word) {
+            Some(Verb::MsgCtl)
+        } else if is_six(*b"semget", word) {
+            Some(Verb::SemGet)
+        } else if is_six(*b"semctl", word) {
+            Some(Verb::SemCtl)
         } else {
             None
         }
     }
 
-    /// What this word names. Those that scripts have most of are tried first.
+    /// What this word names; none where it names no call. Those that scripts and traces have most of are tried first.
     #[inline(always)]
-    #[tactic(auto, unfolding(crate::specs::Forms::verb_of))]
-    pub(crate) fn named(word: &[u8]) -> Option<Verb>
+    #[tactic(auto, unfolding(crate::specs::Verbs::verb_of))]
+    pub fn named(word: &[u8]) -> Option<Verb>
         ensures { result ≡ verb_of word.now }
     {
         if is_six(*b"msgrcv", word) {
