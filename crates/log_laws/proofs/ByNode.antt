@@ -1,5 +1,5 @@
 -- A merge node by node: the turns are in order, all are of nodes of the script, and each log is the part of its node.
-use Rattle.std.proofs.Common.{◌≡◌, ◌≢◌, ◌⊎◌, ℕ, ◌+◌, ◌<◌, ◌≤◌, List, [], ◌∷◌, ◌++◌, map, refl, ap, sym, subst, ◌∙◌, inl, inr, arith}
+use Rattle.std.proofs.Common.{◌≡◌, ◌≢◌, ◌⊎◌, ℕ, List, [], ◌∷◌, ◌++◌, map, refl, ap, sym, subst, ◌∙◌, inl, inr, arith}
 use Rattle.std.specs.List.{AllByRecursion}
 use Rattle.std.specs.List.Sorted.{IsPermutation}
 use Rattle.std.proofs.lemmas.Bool.{cases_eq, cases_lt}
@@ -10,7 +10,7 @@ use Rattle.stamp_merge.specs.Merge.{items_of, all_items, AreInOrder, IsPartOf}
 use Rattle.stamp_merge.proofs.Filters.{all-map}
 use Rattle.stamp_merge.proofs.Merges.{own-item, others-item, none-own, of-append}
 use Rattle.world_model.specs.World.{IsNode, node_count}
-use Rattle.log_laws.specs.Logs.{Logged, Log, item_of, items_in}
+use Rattle.log_laws.specs.Logs.{Logged, Log, items_in}
 use Rattle.log_laws.specs.Merge.{logs_of, NodeTurn, turn_item, IsMerge}
 use Rattle.log_laws.proofs.Lists.{all-mapped, all-unmapped, all-moved, log_of, items-of-turns}
 use Rattle.log_laws.proofs.MayMerge.{log-part, all-of-logs, each-of-logs}

@@ -4,12 +4,12 @@ use Rattle.std.specs.List.{AllByRecursion, Contains}
 use Rattle.std.proofs.lemmas.Bool.{cases_eq, cases_lt}
 use Rattle.std.proofs.lemmas.List.Elements.{All-contains, All-contains_itself}
 use Rattle.pico_base.specs.declared.script.Script.{Script}
+use Rattle.stamp_merge.specs.Merge.{IsBefore, AreInOrder}
 use Rattle.stamp_merge.proofs.Filters.{all-map}
 use Rattle.world_model.specs.Node.{Node}
 use Rattle.world_model.specs.World.{IsNode}
 use Rattle.log_laws.specs.Logs.{StampedFrame, Logged, Log, sent_in, taken_in, AreConsistent}
-use Rattle.stamp_merge.specs.Merge.{IsBefore, AreInOrder}
-use Rattle.log_laws.specs.Merge.{NodeTurn, turn_item, IsMerge}
+use Rattle.log_laws.specs.Merge.{NodeTurn, turn_item}
 use Rattle.log_laws.specs.Journal.{JournalEntry, IsJournalOf}
 use Rattle.log_laws.specs.Drawn.{IsStampOfTurn, IsKnownStamp, IsDrawnFrom, AreAtMostPlaces, StampsAreFew}
 use Rattle.log_laws.proofs.Lists.{to-all, from-all, all-of-log, left-all, none-below, stamps-of-sent}

@@ -11,7 +11,7 @@ use Rattle.stamp_merge.proofs.Merges.{own-item, others-item}
 use Rattle.world_model.specs.World.{IsNode, node_count}
 use Rattle.log_laws.specs.Logs.{Logged, Log, items_in}
 use Rattle.log_laws.specs.Merge.{logs_from, logs_of, NodeTurn, turn_item, event_at, event_of, events_of}
-use Rattle.log_laws.specs.EventLogs.{event_item_of, event_log, event_logs_from, event_logs_of, EventLogsMayMerge, event_item, HasTurns, EventsMergeAsTurns}
+use Rattle.log_laws.specs.EventLogs.{event_item_of, event_log, event_logs_from, event_logs_of, EventLogsMayMerge, event_item, EventsMergeAsTurns}
 use Rattle.log_laws.proofs.Lists.{all-moved, log_of, log-of-own, log-of-other}
 use Rattle.log_laws.proofs.MayMerge.{log-part, all-of-logs, logs_may_merge_lemma}
 use Rattle.log_laws.proofs.ByNode.{IsMergeByNode, from-nodes}

@@ -1,10 +1,9 @@
 -- The items of a merge of logs are turns.
-use Rattle.std.proofs.Common.{◌≡◌, ℕ, List, [], ◌∷◌, map, refl, ap, sym, subst, ◌∙◌}
+use Rattle.std.proofs.Common.{◌≡◌, List, [], ◌∷◌, map, refl, ap, sym, subst, ◌∙◌}
 use Rattle.std.specs.List.{AllByRecursion}
-use Rattle.pico_base.specs.declared.script.Script.{Script}
 use Rattle.stamp_merge.specs.declared.Stamped.{Stamped}
 use Rattle.stamp_merge.specs.Merge as stamps
-use Rattle.log_laws.specs.Logs.{Logged, Log}
+use Rattle.log_laws.specs.Logs.{Logged}
 use Rattle.log_laws.specs.Merge.{logs_of, turn_item, turn_of}
 use Rattle.log_laws.specs.Laws.{MergedLogsAreRuns}
 use Rattle.log_laws.proofs.Lists.{all-moved}
