@@ -187,7 +187,11 @@ impl Logged {
     pub fn wait<G: Gate>(&mut self, gate: &G, turns: u64, most: u64) -> u64
         ensures { (script : Script) → IsOfScript script self.old → AreIdleTurns script result self.old self.new }
     {
-        if most > u64::MAX - self.silent || !self.is_waiting() {
+        if most > u64::MAX - self.silent {
+            gate.pass(self.works.number, turns.saturating_add(1));
+            return 0;
+        }
+        if !self.is_waiting() {
             gate.pass(self.works.number, turns.saturating_add(1));
             return 0;
         }

@@ -8,7 +8,7 @@ returns-then-not-turn_on g c =
     worked-faulty c.args.script.now c.args.lock.now c.args.logged.now c.turn_on.new.logged
     (turning-on c.args.script.now c.args.lock.now c.args.logged.now c.loop.logged c.turn_on.new.logged
     c.loop.invariant.turning c.turn_on.ensures.turning)
-    (c.turn_on.ensures.faulty c.if-turn_on.false)
+    (c.turn_on.ensures.faulty c.if-not-turn_on.true)
 
 pub returns-then-quiet-ge-QUIET : goal.returns-then-quiet-ge-QUIET
 returns-then-quiet-ge-QUIET g c =

@@ -3,6 +3,6 @@ use Rattle.node_log.proofs.logged.Logged.wait.Goals as goal
 
 pub returns : goal.returns
 returns g c =
-    let waits = rw (← c.self.view_is) at (c.is_waiting.ensures c.if-is_waiting.true) in
+    let waits = rw (← c.self.view_is) at (c.is_waiting.ensures c.if-not-is_waiting.false) in
     rw (← c.self.view_is, c.quiet_on-self-inside.ensures)
     (λ script h. noted-turns script c.count_silences.result c.self.inside waits.0 waits.1 waits.2 h)
