@@ -8,6 +8,8 @@ pub static SIGNALS: [&str; 10] = [
     "HUP", "INT", "QUIT", "KILL", "USR1", "USR2", "PIPE", "ALRM", "TERM", "CHLD",
 ];
 
+static NO_OTHERS: [&str; 0] = [];
+
 const ONE_OF: &str = "G is one of HUP, INT, QUIT, KILL, USR1, USR2, PIPE, ALRM, TERM, CHLD";
 
 // The name of a signal, whatever its letters are.
@@ -53,7 +55,7 @@ pub fn is_signal(bytes: &[u8]) -> bool {
 
 /// The name of a signal.
 pub fn signal(word: Word<'_>) -> Option<Wrong<'_>> {
-    signal_or(word, &[], "")
+    signal_or(word, &NO_OTHERS, "")
 }
 
 /// The name of a signal, or one of the other words, which this text lists.
