@@ -102,6 +102,7 @@ spent-or-faulty script old new (StampEnd last) h not_did not_piece not_idle none
     some-is-none : (x : LogFault) → Some x ≡ None → ⊥
     some-is-none x e = cc
 
+-- a node whose turn did nothing that turns do without a fault has one
 pub faulty : (script : Script) (fault : Option LogFault) (old new : LoggedNode) (answer : TurnAnswer)
     → old.fault ≡ fault → TurnsFrom fault script old new answer → answer ≢ Did → answer ≢ Piece → answer ≢ Idle
     → new.fault ≢ None
