@@ -251,7 +251,7 @@ fn repeated_few(text: &[u8]) -> Option<(&[u8], usize)> {
     };
     let count = count_of(digits)?;
     if letter.is_ascii_alphanumeric() && count < 17 {
-        Some((std::slice::from_ref(letter), count))
+        Some((text.get(text.len().saturating_sub(1)..)?, count))
     } else {
         None
     }
