@@ -14,5 +14,5 @@ pub use finding::{Fault, Finding, Other, Page, Span, Wrong};
 pub use lines::{Line, Lines};
 pub use near::Nearest;
 pub use shown::text_of;
-pub use text::{Piece, Text, Totals};
+pub use text::{Piece, SIGNALS, Style, Text, Totals};
 pub use words::{Word, Words, is_blank, without_blanks};

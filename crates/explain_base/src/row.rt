@@ -3,7 +3,7 @@ ghost use Rattle.std.specs.Prelude.{◌≡◌, ◌<◌, ◌≤◌, ◌↔◌, Is
 ghost use Rattle.std.specs.List.{All};
 ghost use Rattle.explain_base.specs.Shown.{IsShown};
 
-use crate::text::{Piece, Text, Totals};
+use crate::text::{Piece, SIGNALS, Style, Text};
 use crate::words::without_blanks;
 use std::alloc::{AllocError, Global};
 
@@ -163,29 +163,12 @@ impl Row {
         self.push_str("..")
     }
 
-    fn push_totals(&mut self, alloc: Global, totals: Totals) -> Result<(), AllocError> {
-        self.push_str("totals entries ")?;
-        self.push_number(alloc, totals.entries)?;
-        self.push_str(" processes ")?;
-        self.push_number(alloc, totals.processes)?;
-        self.push_str(" notready ")?;
-        self.push_number(alloc, totals.not_ready)?;
-        self.push_str(" refused ")?;
-        self.push_number(alloc, totals.refused)
-    }
-
-    fn push_range(
-        &mut self,
-        alloc: Global,
-        name: &str,
-        low: i64,
-        high: i64,
-    ) -> Result<(), AllocError> {
-        self.push_str(name)?;
+    fn push_range(&mut self, alloc: Global, piece: &Piece) -> Result<(), AllocError> {
+        self.push(piece.bytes)?;
         self.push_str(" is a number from ")?;
-        self.push_signed(alloc, low)?;
+        self.push_signed(alloc, piece.low)?;
         self.push_str(" to ")?;
-        self.push_signed(alloc, high)
+        self.push_signed(alloc, piece.high)
     }
 
     fn push_said(&mut self, alloc: Global, bytes: &[u8]) -> Result<(), AllocError> {
@@ -213,10 +196,10 @@ impl Row {
         self.push_str(if count == 1 { " node" } else { " nodes" })
     }
 
-    // Those of the words that stand in the list.
-    fn push_in_order(&mut self, words: &[&str], listed: &[u8]) -> Result<(), AllocError> {
+    // Those of the signals that stand in the list.
+    fn push_signals(&mut self, listed: &[u8]) -> Result<(), AllocError> {
         let mut between: &[u8] = b"";
-        for word in words {
+        for word in &SIGNALS {
             let name = word.as_bytes();
             if listed.split(|byte| *byte == b',').any(|it| it == name) {
                 self.push(between)?;
@@ -227,24 +210,55 @@ impl Row {
         Ok(())
     }
 
+    // So many times these bytes.
+    fn push_repeated(&mut self, bytes: &[u8], count: usize) -> Result<(), AllocError> {
+        for _ in 0..count {
+            self.push(bytes)?;
+        }
+        Ok(())
+    }
+
+    // The byte of that number, where it is a printable one.
+    fn push_numbered(&mut self, number: usize) -> Result<(), AllocError> {
+        match u8::try_from(number) {
+            Ok(byte) => self.push_byte(byte),
+            Err(_) => Ok(()),
+        }
+    }
+
+    fn push_counted(&mut self, alloc: Global, piece: &Piece) -> Result<(), AllocError> {
+        self.push(piece.bytes)?;
+        self.push_number(alloc, piece.number)
+    }
+
+    // A piece that is bytes.
+    fn push_bytes(&mut self, alloc: Global, piece: &Piece) -> Result<(), AllocError> {
+        let bytes = piece.bytes;
+        match piece.style {
+            Style::Said => self.push_said(alloc, bytes),
+            Style::Cut => self.push_cut(alloc, bytes, WORD),
+            Style::Reply => self.push_cut(alloc, bytes, REPLY),
+            Style::Lowered => self.push_lowered(bytes),
+            Style::Spelled => self.push_all_spelled(bytes),
+            Style::Signals => self.push_signals(bytes),
+            _ => self.push(bytes),
+        }
+    }
+
     fn push_piece(&mut self, alloc: Global, piece: &Piece) -> Result<(), AllocError> {
-        match piece {
-            Piece::Nothing => Ok(()),
-            Piece::Plain(text) => self.push_str(text),
-            Piece::Said(bytes) => self.push_said(alloc, bytes),
-            Piece::Cut(bytes) => self.push_cut(alloc, bytes, WORD),
-            Piece::Reply(bytes) => self.push_cut(alloc, bytes, REPLY),
-            Piece::Whole(bytes) => self.push(bytes),
-            Piece::Lowered(bytes) => self.push_lowered(bytes),
-            Piece::Spelled(bytes) => self.push_all_spelled(bytes),
-            Piece::Number(number) => self.push_number(alloc, *number),
-            Piece::Signed(number) => self.push_signed(alloc, *number),
-            Piece::Grouped(number) => self.push_grouped(alloc, *number),
-            Piece::Range { name, low, high } => self.push_range(alloc, name, *low, *high),
-            Piece::Totals(totals) => self.push_totals(alloc, *totals),
-            Piece::Nodes(count) => self.push_nodes(alloc, *count),
-            Piece::Times { byte, count } => self.push_times(*byte, *count),
-            Piece::InOrder { words, listed } => self.push_in_order(words, listed),
+        match piece.style {
+            Style::Repeated => self.push_repeated(piece.bytes, piece.number),
+            Style::Byte => self.push_numbered(piece.number),
+            Style::Counted => self.push_counted(alloc, piece),
+            Style::CountedLast => {
+                self.push_counted(alloc, piece)?;
+                self.push_str("`")
+            }
+            Style::Grouped => self.push_grouped(alloc, piece.number),
+            Style::Nodes => self.push_nodes(alloc, piece.number),
+            Style::Bound => self.push_signed(alloc, piece.low),
+            Style::Range => self.push_range(alloc, piece),
+            _ => self.push_bytes(alloc, piece),
         }
     }
 

@@ -49,10 +49,10 @@ fn wrong_word(need: Need, word: Word<'_>, is_followed: bool, in_trace: bool) -> 
 // A word that must be there isn't.
 fn lacks<'a>(call: &'static str, need: Need, end: usize) -> Wrong<'a> {
     let what = Text::four(
-        Piece::Plain("`"),
-        Piece::Plain(call),
-        Piece::Plain("` lacks "),
-        Piece::Plain(need.called),
+        Piece::plain("`"),
+        Piece::plain(call),
+        Piece::plain("` lacks "),
+        Piece::plain(need.called),
     );
     let span = Span::of(end.saturating_add(1), end.saturating_add(2));
     Wrong::new(what, Text::plain(need.lacking), span)
@@ -104,9 +104,9 @@ fn excess<'a>(form: &'static Form, words: Words<'a>) -> Option<Wrong<'a>> {
 fn may<'a>(form: &'static Form) -> Text<'a> {
     if form.behind.words.is_empty() {
         Text::three(
-            Piece::Plain("`"),
-            Piece::Plain(form.call),
-            Piece::Plain("` ends here"),
+            Piece::plain("`"),
+            Piece::plain(form.call),
+            Piece::plain("` ends here"),
         )
     } else {
         Text::plain(form.behind.told)

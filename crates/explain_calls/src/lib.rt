@@ -19,5 +19,5 @@ pub use lists::but_for_capitals;
 pub use names::{CALL_NAMES, CALLS, is_call};
 pub use numbers::{GREATEST, Range, block_name, count_of, is_block_name, is_variable, number};
 pub use plain::{Told, other, others, plain_wrong, text_at};
-pub use signals::{SIGNALS, is_signal, signal, signal_set};
+pub use signals::{is_signal, signal, signal_set};
 pub use texts::text as message_text;

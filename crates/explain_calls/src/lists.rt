@@ -20,7 +20,7 @@ pub fn lone_comma<'a>(
             "values on both, as ",
         )
     };
-    let expected = Text::two(Piece::Plain(front), Piece::Plain(example));
+    let expected = Text::two(Piece::plain(front), Piece::plain(example));
     Wrong::new(
         Text::plain(what),
         expected,

@@ -2,7 +2,7 @@
 ghost use Rattle.std.specs.Prelude.{◌≤◌, IsTrue, length};
 
 use crate::plain::plain_wrong;
-use explain_base::{Nearest, Piece, Span, Text, Word, Wrong};
+use explain_base::{Nearest, Piece, Span, Style, Text, Word, Wrong};
 
 /// The greatest number of a process, a queue, a set and a key.
 pub const GREATEST: i64 = 4294967295;
@@ -23,11 +23,7 @@ impl Range {
     }
 
     fn piece<'a>(self) -> Piece<'a> {
-        Piece::Range {
-            name: self.name,
-            low: self.low,
-            high: self.high,
-        }
+        Piece::range(self.name, self.low, self.high)
     }
 }
 
@@ -109,7 +105,7 @@ fn unlike_digits<'a>(text: &'a [u8], digits: &[u8]) -> Option<Text<'a>> {
 
 // A variable stands where it can't.
 fn no_variable_here<'a>(word: Word<'a>, range: Range) -> Wrong<'a> {
-    let behind = Piece::Plain("; variables stand for P, Q and S alone");
+    let behind = Piece::plain("; variables stand for P, Q and S alone");
     let expected = Text::two(range.piece(), behind);
     Wrong::new(
         Text::plain("a variable can't stand here"),
@@ -136,15 +132,19 @@ fn out_of_range<'a>(word: Word<'a>, range: Range) -> Option<Text<'a>> {
         size
     };
     let (first, behind, bound) = if value > range.high {
-        (Piece::Cut(word.text), " is above ", range.high)
+        (Piece::of(Style::Cut, word.text), " is above ", range.high)
     } else if value >= range.low {
         return None;
     } else if range.low < 0 || value >= 0 {
-        (Piece::Cut(word.text), " is below ", range.low)
+        (Piece::of(Style::Cut, word.text), " is below ", range.low)
     } else {
-        (Piece::Plain(range.name), " isn't below ", range.low)
+        (Piece::plain(range.name), " isn't below ", range.low)
     };
-    Some(Text::three(first, Piece::Plain(behind), Piece::Signed(bound)))
+    Some(Text::three(
+        first,
+        Piece::plain(behind),
+        Piece::bounded(Style::Bound, &[], bound, 0),
+    ))
 }
 
 // A letter and at most two digits.
@@ -339,9 +339,9 @@ fn no_name(name: &[u8]) -> Option<Text<'_>> {
     }
     if is_long && is_small_name(name.get(..32).unwrap_or(name)) {
         return Some(Text::three(
-            Piece::Plain("the name has "),
-            Piece::Number(name.len()),
-            Piece::Plain(" bytes, and 32 is the limit"),
+            Piece::plain("the name has "),
+            Piece::number(name.len()),
+            Piece::plain(" bytes, and 32 is the limit"),
         ));
     }
     None

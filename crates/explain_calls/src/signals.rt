@@ -1,12 +1,7 @@
 //! What is wrong with a signal's name, and with a set of them.
 
 use crate::lists::{but_for_capitals, is_among, lone_comma};
-use explain_base::{Piece, Text, Word, Wrong};
-
-/// The names of all signals.
-pub static SIGNALS: [&str; 10] = [
-    "HUP", "INT", "QUIT", "KILL", "USR1", "USR2", "PIPE", "ALRM", "TERM", "CHLD",
-];
+use explain_base::{Piece, SIGNALS, Text, Word, Wrong};
 
 static NO_OTHERS: [&str; 0] = [];
 
@@ -36,7 +31,7 @@ fn unlike_name(text: &[u8]) -> Option<(&'static str, &'static str)> {
 // What is wrong with a word that is none of the signals; others may stand there, too.
 fn no_signal<'a>(word: Word<'a>, others: &'static str) -> Wrong<'a> {
     if let Some((what, name)) = unlike_name(word.text) {
-        let expected = Text::two(Piece::Plain("G is "), Piece::Plain(name));
+        let expected = Text::two(Piece::plain("G is "), Piece::plain(name));
         return Wrong::new(Text::plain(what), expected, word.span());
     }
     let what = if word.text.iter().all(|byte| byte.is_ascii_digit()) {
@@ -44,7 +39,7 @@ fn no_signal<'a>(word: Word<'a>, others: &'static str) -> Wrong<'a> {
     } else {
         Text::said(word.text, " is no signal of this system")
     };
-    let listed = Text::two(Piece::Plain(ONE_OF), Piece::Plain(others));
+    let listed = Text::two(Piece::plain(ONE_OF), Piece::plain(others));
     Wrong::new(what, listed, word.span())
 }
 

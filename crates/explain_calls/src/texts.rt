@@ -3,7 +3,7 @@
 use crate::lists::parted;
 use crate::numbers::{Range, number, size_of_character};
 use crate::plain::plain_wrong;
-use explain_base::{Piece, Span, Text, Word, Wrong};
+use explain_base::{Piece, Span, Style, Text, Word, Wrong};
 
 const REPETITION: &str = "rep:N:C is N times the letter or digit C, as rep:20:a";
 
@@ -79,7 +79,7 @@ fn unprintable<'a>(word: Word<'a>, at: usize, rest: &'a [u8], byte: u8) -> Wrong
     } else {
         "a byte below 0x20 is written with its hexadecimal digits"
     };
-    let spelled = Text::one(Piece::Spelled(character));
+    let spelled = Text::one(Piece::of(Style::Spelled, character));
     Wrong::new(
         Text::plain(what),
         spelled,
@@ -114,7 +114,7 @@ fn escape<'a>(word: Word<'a>, at: usize, rest: &'a [u8]) -> Result<usize, Wrong<
 }
 
 fn capital_escape<'a>(word: Word<'a>, at: usize, rest: &'a [u8]) -> Wrong<'a> {
-    let spelled = Text::one(Piece::Lowered(rest.get(..4).unwrap_or(&[])));
+    let spelled = Text::one(Piece::of(Style::Lowered, rest.get(..4).unwrap_or(&[])));
     let what = Text::plain("the digits of an escape are in lower case");
     Wrong::new(what, spelled, word.part(at, at.saturating_add(4)))
 }

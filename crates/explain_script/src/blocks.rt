@@ -73,10 +73,10 @@ pub fn no_proc<'a>(cause: Cause<'a>, first: Word<'a>) -> Told<'a> {
 fn inside<'a>(block: Option<Block<'a>>, ends: &'static str) -> Text<'a> {
     match block {
         Some(block) => Text::four(
-            Piece::Plain(ends),
-            Piece::Plain(" of `"),
-            Piece::Whole(block.name),
-            Piece::Plain("`"),
+            Piece::plain(ends),
+            Piece::plain(" of `"),
+            Piece::whole(block.name),
+            Piece::plain("`"),
         ),
         None => Text::plain(ends),
     }
@@ -118,9 +118,9 @@ pub fn no_end_before<'a>(cause: Cause<'a>, first: Word<'a>) -> Told<'a> {
 /// More blocks than a script may have.
 pub fn too_many_blocks<'a>(cause: Cause<'a>) -> Fault<'a> {
     let what = Text::three(
-        Piece::Plain("this is block "),
-        Piece::Number(cause.reading.blocks.saturating_add(1)),
-        Piece::Plain(", and 32 is the limit"),
+        Piece::plain("this is block "),
+        Piece::number(cause.reading.blocks.saturating_add(1)),
+        Piece::plain(", and 32 is the limit"),
     );
     Fault::new(
         what,
@@ -136,9 +136,9 @@ const MAX_CALLS: usize = 20000;
 // The `exit 0` of a block's end is more than a script may have.
 fn too_many_with_end<'a>(calls: usize, first: Word<'a>) -> Fault<'a> {
     let what = Text::three(
-        Piece::Plain("the `exit 0` that this `end` stands for is call "),
-        Piece::Grouped(calls.saturating_add(1)),
-        Piece::Plain(", and 20,000 is the limit"),
+        Piece::plain("the `exit 0` that this `end` stands for is call "),
+        Piece::grouped(calls.saturating_add(1)),
+        Piece::plain(", and 20,000 is the limit"),
     );
     Fault::new(what, Text::plain("fewer calls"), first.span(), Page::Faults)
 }
@@ -156,15 +156,15 @@ pub fn too_many_calls<'a>(cause: Cause<'a>, first: Word<'a>) -> Fault<'a> {
         ""
     };
     let what = Text::four(
-        Piece::Plain("with this line the script has "),
-        Piece::Grouped(calls.saturating_add(call.count())),
-        Piece::Plain(" calls, and 20,000 is the limit"),
-        Piece::Plain(tries),
+        Piece::plain("with this line the script has "),
+        Piece::grouped(calls.saturating_add(call.count())),
+        Piece::plain(" calls, and 20,000 is the limit"),
+        Piece::plain(tries),
     );
     let expected = Text::three(
-        Piece::Plain("at most "),
-        Piece::Grouped(MAX_CALLS.saturating_sub(calls)),
-        Piece::Plain(" here"),
+        Piece::plain("at most "),
+        Piece::grouped(MAX_CALLS.saturating_sub(calls)),
+        Piece::plain(" here"),
     );
     let mark = call.tries.or(call.words.get(0)).unwrap_or(first);
     Fault::new(what, expected, mark.span(), Page::Faults)

@@ -86,9 +86,9 @@ fn glued(word: Word<'_>) -> Option<Wrong<'_>> {
     }
     let between = if rest.is_empty() { " =" } else { " = " };
     let expected = Text::three(
-        Piece::Whole(name),
-        Piece::Plain(between),
-        Piece::Whole(rest),
+        Piece::whole(name),
+        Piece::plain(between),
+        Piece::whole(rest),
     );
     Some(Wrong::new(
         Text::plain("`=` stands between blanks"),

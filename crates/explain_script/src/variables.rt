@@ -93,9 +93,9 @@ fn elsewhere<'a>(cause: Cause<'a>, name: &[u8]) -> Option<Line<'a>> {
 fn why_not<'a>(fork: Option<Line<'a>>, line: Line<'a>) -> Text<'a> {
     match fork {
         Some(fork) if fork.number < line.number => Text::three(
-            Piece::Plain("sets it, behind line "),
-            Piece::Number(fork.number),
-            Piece::Plain(
+            Piece::plain("sets it, behind line "),
+            Piece::number(fork.number),
+            Piece::plain(
                 ", which forks this block; a child begins with what was set before its fork",
             ),
         ),

@@ -24,9 +24,9 @@ pub fn line_too_long<'a>(alloc: Global, line: Line<'a>) -> Finding<'a>
     ensures { result.number ≡ Some line.entry.number }
 {
     let what = Text::three(
-        Piece::Plain("the line has "),
-        Piece::Grouped(line.text.len()),
-        Piece::Plain(" bytes, and 4,096 is the limit"),
+        Piece::plain("the line has "),
+        Piece::grouped(line.text.len()),
+        Piece::plain(" bytes, and 4,096 is the limit"),
     );
     let expected = if line.text.contains(&b'"') {
         "a shorter line; rep:N:C says a long text in short"

@@ -5,7 +5,7 @@ use crate::entry::{Entry, entry_of, sign_in, span_of, text_of_words};
 use crate::errors::meaning;
 use crate::judged::Judged;
 use crate::walk::{Process, Walk};
-use explain_base::{Fault, Finding, Line, Other, Page, Piece, Span, Text, Words};
+use explain_base::{Fault, Finding, Line, Other, Page, Piece, Span, Style, Text, Words};
 use explain_calls::{Call, Told, others, text_at};
 use std::alloc::{AllocError, Global};
 
@@ -94,10 +94,10 @@ fn call_left<'a>(line: &'a [u8], is_line: bool, pid: &'a [u8], due: &'a [u8]) ->
         Text::whole_in("the trace ends, and process ", pid, " has calls left")
     };
     let expected = Text::four(
-        Piece::Plain("the next line of process "),
-        Piece::Whole(pid),
-        Piece::Plain(" is: "),
-        Piece::Whole(due),
+        Piece::plain("the next line of process "),
+        Piece::whole(pid),
+        Piece::plain(" is: "),
+        Piece::whole(due),
     );
     Fault::new(what, expected, call_span(line), Page::Checking)
 }
@@ -106,10 +106,10 @@ fn call_left<'a>(line: &'a [u8], is_line: bool, pid: &'a [u8], due: &'a [u8]) ->
 fn killed<'a>(line: &'a [u8], pid: &'a [u8], due: &'a [u8]) -> Fault<'a> {
     let what = Text::whole_in("a signal ends process ", pid, ", and that is its next line");
     let expected = Text::four(
-        Piece::Whole(pid),
-        Piece::Plain(" "),
-        Piece::Whole(due),
-        Piece::Plain(" = ended"),
+        Piece::whole(pid),
+        Piece::plain(" "),
+        Piece::whole(due),
+        Piece::plain(" = ended"),
     );
     Fault::new(what, expected, call_span(line), Page::Checking)
 }
@@ -199,8 +199,8 @@ fn no_reply<'a>(line: &'a [u8], entry: Option<Entry<'a>>) -> Fault<'a> {
 
 // The kernel replies otherwise than a line, whose reply is there or else the whole line.
 fn other_reply<'a>(kernel: &'a [u8], span: Span) -> Fault<'a> {
-    let says = Piece::Plain(meaning(kernel).unwrap_or(""));
-    let expected = Text::two(Piece::Reply(kernel), says);
+    let says = Piece::plain(meaning(kernel).unwrap_or(""));
+    let expected = Text::two(Piece::of(Style::Reply, kernel), says);
     let what = Text::plain("a single kernel replies otherwise here");
     Fault::new(what, expected, span, Page::Kernel)
 }

@@ -2,7 +2,7 @@
 
 use crate::entry::{are, before, last_two, sign_in};
 use crate::replies::{wrong_order, wrong_reply, wrong_spelling};
-use explain_base::{Fault, Lines, Nearest, Page, Piece, Span, Text, Word, Words, Wrong};
+use explain_base::{Fault, Lines, Nearest, Page, Piece, Span, Style, Text, Word, Words, Wrong};
 use explain_calls::{
     CALL_NAMES, CALLS, Form, GREATEST, Range, fault_of, is_variable, number, plain_wrong, signal,
     text_at,
@@ -223,8 +223,8 @@ fn wrong_node<'a>(script: &'a [u8], word: Word<'a>) -> Option<Fault<'a>> {
     let has = Text::four(
         wrong.expected.first,
         wrong.expected.second,
-        Piece::Plain("; this script has "),
-        Piece::Nodes(blocks_of(script)),
+        Piece::plain("; this script has "),
+        Piece::counted(Style::Nodes, &[], blocks_of(script)),
     );
     Some(Wrong::new(wrong.what, has, wrong.span).fault(FORM, Page::Trace))
 }

@@ -3,10 +3,10 @@
 use crate::entry::span_of;
 use crate::errors::{ERRORS_AND_ENDED, meaning};
 use crate::fields::FORM;
-use explain_base::{Fault, Nearest, Page, Piece, Text, Word, Words, Wrong};
+use explain_base::{Fault, Nearest, Page, Piece, SIGNALS, Style, Text, Word, Words, Wrong};
 use explain_calls::{
-    GREATEST, Range, SIGNALS, count_of, is_signal, message_text, number, plain_wrong, signal,
-    signal_set, text_at,
+    GREATEST, Range, count_of, is_signal, message_text, number, plain_wrong, signal, signal_set,
+    text_at,
 };
 
 const REPLIES: &str = "a number | PID exited N | PID killed G | TYPE TEXT | signals | \
@@ -209,10 +209,7 @@ pub fn wrong_order(word: Word<'_>) -> Option<Fault<'_>> {
     if !is_disordered(word.text) {
         return None;
     }
-    let ordered = Piece::InOrder {
-        words: &SIGNALS,
-        listed: word.text,
-    };
+    let ordered = Piece::of(Style::Signals, word.text);
     let what = Text::plain("the signals of a set stand in the table's order");
     Some(Wrong::new(what, Text::one(ordered), word.span()).fault(FORM, Page::Trace))
 }
@@ -239,22 +236,22 @@ fn unshortened(word: Word<'_>) -> Option<Wrong<'_>> {
         "a text of 17 or more times the same letter or digit is written in short",
     );
     let short = Text::four(
-        Piece::Plain("rep:"),
-        Piece::Number(number),
-        Piece::Plain(":"),
-        Piece::Times { byte, count: 1 },
+        Piece::plain("rep:"),
+        Piece::number(number),
+        Piece::plain(":"),
+        Piece::byte(byte),
     );
     Some(Wrong::new(what, short, word.span()))
 }
 
-// The letter that a text in short repeats fewer than 17 times, and how often.
-fn repeated_few(text: &[u8]) -> Option<(u8, usize)> {
+// What a text in short repeats fewer than 17 times, and how often.
+fn repeated_few(text: &[u8]) -> Option<(&[u8], usize)> {
     let [b'r', b'e', b'p', b':', digits @ .., b':', letter] = text else {
         return None;
     };
     let count = count_of(digits)?;
     if letter.is_ascii_alphanumeric() && count < 17 {
-        Some((*letter, count))
+        Some((text.get(text.len().saturating_sub(1)..)?, count))
     } else {
         None
     }
@@ -262,11 +259,11 @@ fn repeated_few(text: &[u8]) -> Option<(u8, usize)> {
 
 // A text that is written in short and has too few bytes for that.
 fn shortened(word: Word<'_>) -> Option<Wrong<'_>> {
-    let (byte, count) = repeated_few(word.text)?;
+    let (letter, count) = repeated_few(word.text)?;
     let long = Text::three(
-        Piece::Plain("\""),
-        Piece::Times { byte, count },
-        Piece::Plain("\""),
+        Piece::plain("\""),
+        Piece::counted(Style::Repeated, letter, count),
+        Piece::plain("\""),
     );
     let what = Text::plain("a text of fewer than 17 bytes stands between quotes");
     Some(Wrong::new(what, long, word.span()))
@@ -299,7 +296,7 @@ fn spelled(word: Word<'_>) -> Option<Wrong<'_>> {
     for at in 0..word.text.len() {
         if let Some(byte) = needless(word.text.get(at..)?) {
             let what = Text::plain("a byte that can stand for itself is spelled");
-            let itself = Text::one(Piece::Times { byte, count: 1 });
+            let itself = Text::one(Piece::byte(byte));
             return Some(Wrong::new(what, itself, word.part(at, at.saturating_add(4))));
         }
     }

@@ -125,14 +125,14 @@ fn spells(text: &[u8], number: usize) -> bool {
 // What is wrong with the number of one of the totals.
 fn wrong_total<'a>(word: Word<'a>, total: Total, counted: usize) -> Wrong<'a> {
     let what = Text::three(
-        Piece::Plain("the totals are wrong: "),
-        Piece::Plain(total.name),
-        Piece::Whole(word.text),
+        Piece::plain("the totals are wrong: "),
+        Piece::plain(total.name),
+        Piece::whole(word.text),
     );
     let expected = Text::three(
-        Piece::Plain("counted are "),
-        Piece::Number(counted),
-        Piece::Plain(total.of),
+        Piece::plain("counted are "),
+        Piece::number(counted),
+        Piece::plain(total.of),
     );
     Wrong::new(what, expected, word.span())
 }
@@ -186,7 +186,7 @@ pub fn wrong_totals<'a>(line: &'a [u8], totals: Totals) -> Fault<'a> {
     };
     Fault {
         wrong: counted.unwrap_or(no_totals(line, totals)),
-        form: Text::one(Piece::Totals(totals)),
+        form: Text::totals(totals),
         page: Page::Trace,
     }
 }

@@ -59,11 +59,7 @@ fn ends_early(alloc: Global, judged: Judged<'_>, totals: Totals) -> Finding<'_>
     } else {
         Text::plain("no trace stands behind the line `trace`")
     };
-    let expected = Text::three(
-        Piece::Plain("a line `"),
-        Piece::Totals(totals),
-        Piece::Plain("`"),
-    );
+    let expected = Text::totals_due(totals);
     Finding::without_line(alloc, what, expected, Some(judged.number), Page::Trace)
 }
 
@@ -83,9 +79,9 @@ fn size_up_to(judged: Judged<'_>, size: usize) -> usize {
 fn too_long<'a>(judged: Judged<'a>, size: usize) -> Option<Text<'a>> {
     if size > MAX_LINE {
         Some(Text::three(
-            Piece::Plain("the line has "),
-            Piece::Grouped(size),
-            Piece::Plain(" bytes, and 65,536 is the limit"),
+            Piece::plain("the line has "),
+            Piece::grouped(size),
+            Piece::plain(" bytes, and 65,536 is the limit"),
         ))
     } else if size_up_to(judged, size) >= MAX_TRACE {
         Some(Text::plain("the trace has more than 67,108,864 bytes"))

@@ -23,8 +23,8 @@ fn wrong_number(value: &str) -> Option<Text<'_>> {
         ))
     } else if is_above(bytes) {
         Some(Text::two(
-            Piece::Whole(bytes),
-            Piece::Plain(" is above the greatest number of a schedule"),
+            Piece::whole(bytes),
+            Piece::plain(" is above the greatest number of a schedule"),
         ))
     } else {
         None
