@@ -202,8 +202,13 @@ inside_waited (suc count) old = inside_idle (inside_waited count old)
 pub waited-is : (count : ℕ) (old : Inside)
     → inside_waited count old
     ≡ record old { silent = count + old.silent; quiet = after_looks count old.quiet }
-waited-is zero old = refl
-waited-is (suc count) old = ap inside_idle (waited-is count old)
+waited-is zero old =
+    let none : old.silent ≡ 0 + old.silent = omega arith in
+    ap (λ (silent : ℕ). record old { silent = silent }) none
+waited-is (suc count) old =
+    let more : suc (count + old.silent) ≡ suc count + old.silent = omega arith in
+    ap inside_idle (waited-is count old)
+    ∙ ap (λ (silent : ℕ). record old { silent = silent; quiet = after_looks (suc count) old.quiet }) more
 
 waited-works : (count : ℕ) (old : Inside) → (inside_waited count old).works ≡ old.works
 waited-works zero old = refl
