@@ -2,56 +2,56 @@ use Rattle.pico_run.proofs.Turns.{faulty, turning-idly, turning-more}
 use Rattle.std.proofs.Common.{refl}
 use Rattle.pico_run.proofs.threads.turn_on.Goals as goal
 
-pub returns-then-waited-eq-most-clause-turning : goal.returns-then-waited-eq-most-clause-turning
-returns-then-waited-eq-most-clause-turning g c =
-    turning-idly c.args.script.now c.args.lock.now c.wait.result c.args.logged.now c.wait.new.self
-    c.turns_keep_logs.ensures c.requires.ready (c.wait.ensures c.args.script.now c.requires.ready.of_script)
+pub returns-then-waited-most-clause-turning : goal.returns-then-waited-most-clause-turning
+returns-then-waited-most-clause-turning g c =
+    turning-idly c.args.script.now c.args.lock.now c.wait-waited.result c.args.logged.now c.wait-waited.new.self
+    c.turns_keep_logs.ensures c.requires.ready (c.wait-waited.ensures c.args.script.now c.requires.ready.of_script)
 
 pub turn-requires-clause-script : goal.turn-requires-clause-script
 turn-requires-clause-script g c =
-    (turning-idly c.args.script.now c.args.lock.now c.wait.result c.args.logged.now c.wait.new.self
+    (turning-idly c.args.script.now c.args.lock.now c.wait-waited.result c.args.logged.now c.wait-waited.new.self
     c.turns_keep_logs.ensures c.requires.ready
-    (c.wait.ensures c.args.script.now c.requires.ready.of_script)).can_turn.of_script
+    (c.wait-waited.ensures c.args.script.now c.requires.ready.of_script)).can_turn.of_script
 
 pub turn-requires-clause-lock : goal.turn-requires-clause-lock
 turn-requires-clause-lock g c =
-    (turning-idly c.args.script.now c.args.lock.now c.wait.result c.args.logged.now c.wait.new.self
+    (turning-idly c.args.script.now c.args.lock.now c.wait-waited.result c.args.logged.now c.wait-waited.new.self
     c.turns_keep_logs.ensures c.requires.ready
-    (c.wait.ensures c.args.script.now c.requires.ready.of_script)).can_turn.lock_is
+    (c.wait-waited.ensures c.args.script.now c.requires.ready.of_script)).can_turn.lock_is
 
 pub returns-in-Did-clause-turning : goal.returns-in-Did-clause-turning
 returns-in-Did-clause-turning g c =
-    turning-more c.args.script.now c.args.lock.now c.args.logged.now c.wait.new.self c.turn.new.self c.turn.result
+    turning-more c.args.script.now c.args.lock.now c.args.logged.now c.wait-waited.new.self c.turn.new.self c.turn.result
     c.turns_keep_logs.ensures
-    (turning-idly c.args.script.now c.args.lock.now c.wait.result c.args.logged.now c.wait.new.self
-    c.turns_keep_logs.ensures c.requires.ready (c.wait.ensures c.args.script.now c.requires.ready.of_script))
+    (turning-idly c.args.script.now c.args.lock.now c.wait-waited.result c.args.logged.now c.wait-waited.new.self
+    c.turns_keep_logs.ensures c.requires.ready (c.wait-waited.ensures c.args.script.now c.requires.ready.of_script))
     c.turn.ensures.turned c.turn.ensures.script c.turn.ensures.lines c.turn.ensures.seat c.turn.ensures.number
 
 pub returns-in-Piece-clause-turning : goal.returns-in-Piece-clause-turning
 returns-in-Piece-clause-turning g c =
-    turning-more c.args.script.now c.args.lock.now c.args.logged.now c.wait.new.self c.turn.new.self c.turn.result
+    turning-more c.args.script.now c.args.lock.now c.args.logged.now c.wait-waited.new.self c.turn.new.self c.turn.result
     c.turns_keep_logs.ensures
-    (turning-idly c.args.script.now c.args.lock.now c.wait.result c.args.logged.now c.wait.new.self
-    c.turns_keep_logs.ensures c.requires.ready (c.wait.ensures c.args.script.now c.requires.ready.of_script))
+    (turning-idly c.args.script.now c.args.lock.now c.wait-waited.result c.args.logged.now c.wait-waited.new.self
+    c.turns_keep_logs.ensures c.requires.ready (c.wait-waited.ensures c.args.script.now c.requires.ready.of_script))
     c.turn.ensures.turned c.turn.ensures.script c.turn.ensures.lines c.turn.ensures.seat c.turn.ensures.number
 
 pub returns-in-Idle-clause-turning : goal.returns-in-Idle-clause-turning
 returns-in-Idle-clause-turning g c =
-    turning-more c.args.script.now c.args.lock.now c.args.logged.now c.wait.new.self c.turn.new.self c.turn.result
+    turning-more c.args.script.now c.args.lock.now c.args.logged.now c.wait-waited.new.self c.turn.new.self c.turn.result
     c.turns_keep_logs.ensures
-    (turning-idly c.args.script.now c.args.lock.now c.wait.result c.args.logged.now c.wait.new.self
-    c.turns_keep_logs.ensures c.requires.ready (c.wait.ensures c.args.script.now c.requires.ready.of_script))
+    (turning-idly c.args.script.now c.args.lock.now c.wait-waited.result c.args.logged.now c.wait-waited.new.self
+    c.turns_keep_logs.ensures c.requires.ready (c.wait-waited.ensures c.args.script.now c.requires.ready.of_script))
     c.turn.ensures.turned c.turn.ensures.script c.turn.ensures.lines c.turn.ensures.seat c.turn.ensures.number
 
 pub returns-in_default-clause-turning : goal.returns-in_default-clause-turning
 returns-in_default-clause-turning g c =
-    turning-more c.args.script.now c.args.lock.now c.args.logged.now c.wait.new.self c.turn.new.self c.turn.result
+    turning-more c.args.script.now c.args.lock.now c.args.logged.now c.wait-waited.new.self c.turn.new.self c.turn.result
     c.turns_keep_logs.ensures
-    (turning-idly c.args.script.now c.args.lock.now c.wait.result c.args.logged.now c.wait.new.self
-    c.turns_keep_logs.ensures c.requires.ready (c.wait.ensures c.args.script.now c.requires.ready.of_script))
+    (turning-idly c.args.script.now c.args.lock.now c.wait-waited.result c.args.logged.now c.wait-waited.new.self
+    c.turns_keep_logs.ensures c.requires.ready (c.wait-waited.ensures c.args.script.now c.requires.ready.of_script))
     c.turn.ensures.turned c.turn.ensures.script c.turn.ensures.lines c.turn.ensures.seat c.turn.ensures.number
 
 pub returns-in_default-clause-faulty : goal.returns-in_default-clause-faulty
 returns-in_default-clause-faulty g c = λ _.
-    faulty c.args.script.now c.wait.new.self.fault c.wait.new.self c.turn.new.self c.turn.result refl
+    faulty c.args.script.now c.wait-waited.new.self.fault c.wait-waited.new.self c.turn.new.self c.turn.result refl
     c.turn.ensures.turned c.in_default.not-Did c.in_default.not-Piece c.in_default.not-Idle
