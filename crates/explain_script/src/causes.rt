@@ -142,14 +142,18 @@ fn like_a_call(word: Word<'_>) -> Option<Wrong<'_>> {
     with_brackets(word)
 }
 
-// A word that is like none; whether it is all that stands there.
+// What is expected in place of a word that is like no call; whether it is all that stands there.
+fn call_due(word: Word<'_>, is_alone: bool) -> Text<'_> {
+    if is_alone && is_variable(word.text) {
+        return Text::plain("VAR = CALL sets a variable, as q = msgget private");
+    }
+    Nearest::told(word.text, &CALL_NAMES, Text::plain(CALLS))
+}
+
+// A word that is like none.
 fn unlike_call(word: Word<'_>, is_alone: bool) -> Wrong<'_> {
-    let expected = if is_alone && is_variable(word.text) {
-        Text::plain("VAR = CALL sets a variable, as q = msgget private")
-    } else {
-        Nearest::told(word.text, &CALL_NAMES, Text::plain(CALLS))
-    };
-    Wrong::new(Text::said(word.text, " is no call"), expected, word.span())
+    let what = Text::said(word.text, " is no call");
+    Wrong::new(what, call_due(word, is_alone), word.span())
 }
 
 /// A word in the place of a call's name that is none.

@@ -1,7 +1,7 @@
 //! A use of a variable that nothing has set.
 ghost use Rattle.std.specs.Prelude.{◌≡◌, IfOk};
 
-use crate::reading::{first_word, fork_before};
+use crate::reading::{Block, first_word, fork_before};
 use crate::refused::Cause;
 use explain_base::{Fault, Finding, Line, Lines, Other, Page, Piece, Text, Word, Words};
 use explain_calls::{Call, Told, other, plain_wrong, text_at};
@@ -103,17 +103,21 @@ fn why_not<'a>(fork: Option<Line<'a>>, line: Line<'a>) -> Text<'a> {
     }
 }
 
+// Why a line that sets the variable doesn't count in a block.
+fn why_not_in<'a>(cause: Cause<'a>, block: Block<'a>, line: Line<'a>) -> Text<'a> {
+    if line.number >= block.line.number {
+        return Text::plain("sets it, and stands below");
+    }
+    let fork = fork_before(cause.script, block.name, cause.line.number, false);
+    why_not(fork, line)
+}
+
 // A line that sets the variable where that doesn't count, and why it doesn't.
 fn set_elsewhere<'a>(cause: Cause<'a>, line: Line<'a>) -> Other<'a> {
-    let what = match cause.reading.block {
-        None => Text::none(),
-        Some(block) if line.number >= block.line.number => Text::plain("sets it, and stands below"),
-        Some(block) => {
-            let fork = fork_before(cause.script, block.name, cause.line.number, false);
-            why_not(fork, line)
-        }
-    };
-    other(line, what)
+    match cause.reading.block {
+        Some(block) => other(line, why_not_in(cause, block, line)),
+        None => other(line, Text::none()),
+    }
 }
 
 /// A use of a variable that nothing has set.
