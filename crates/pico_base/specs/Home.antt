@@ -4,6 +4,7 @@ use Rattle.pico_base.specs.declared.call.Call.{Call}
 use Rattle.pico_base.specs.declared.call.Call.TheVariants as calls
 use Rattle.pico_base.specs.declared.call.Home.{Home}
 use Rattle.pico_base.specs.declared.call.Home.TheVariants.{Own, Keys, Removal, At, Parent}
+use Rattle.pico_base.specs.declared.numbers.Name.{Name}
 use Rattle.pico_base.specs.declared.numbers.Name.TheVariants.{Proc, Msg, Sem}
 use Rattle.pico_base.specs.declared.signal.SigArg.TheVariants.{Zero, Is, Bad}
 
@@ -12,16 +13,22 @@ abbrev pub home_of_get : Option ℕ → Home
 home_of_get None = Own
 home_of_get (Some key) = Keys
 
--- a signal to oneself is one's own affair, to another process that process's
-abbrev pub home_of_kill : ℕ → ℕ → Home
-home_of_kill caller pid = if pid == caller then Own else At (Proc pid)
+-- what concerns oneself is one's own affair, and what concerns another process that process's
+abbrev pub home_of_process : ℕ → ℕ → Home
+home_of_process caller pid = if pid == caller then Own else At (Proc pid)
+
+-- a withdrawal belongs where the call waits
+abbrev pub home_of_withdrawal : ℕ → Name → Home
+home_of_withdrawal caller (Proc pid) = home_of_process caller pid
+home_of_withdrawal caller (Msg id) = At (Msg id)
+home_of_withdrawal caller (Sem id) = At (Sem id)
 
 abbrev pub home_of : ℕ → Call → Home
 home_of caller (calls.Exit status) = Parent
 home_of caller (calls.Killed sig) = Parent
 home_of caller (calls.Kill pid Bad) = Own
-home_of caller (calls.Kill pid Zero) = home_of_kill caller pid
-home_of caller (calls.Kill pid (Is sig)) = home_of_kill caller pid
+home_of caller (calls.Kill pid Zero) = home_of_process caller pid
+home_of caller (calls.Kill pid (Is sig)) = home_of_process caller pid
 home_of caller (calls.MsgGet key create excl) = home_of_get key
 home_of caller (calls.SemGet key count create excl) = home_of_get key
 home_of caller (calls.MsgRmid id) = Removal (Msg id)
@@ -45,3 +52,4 @@ home_of caller (calls.SigProcMask how set) = Own
 home_of caller calls.SigPending = Own
 home_of caller (calls.Handled sig) = Own
 home_of caller (calls.WaitPid child nohang) = Own
+home_of caller (calls.Withdraw name) = home_of_withdrawal caller name

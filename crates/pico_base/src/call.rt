@@ -147,6 +147,10 @@ pub enum Call {
     SemRmid {
         id: Id,
     },
+    /// The end of a wait that a signal broke off: at this queue or set, or, with the caller's own number, in `waitpid`.
+    Withdraw {
+        name: Name,
+    },
 }
 
 impl Call {
@@ -243,6 +247,7 @@ impl Call {
                 values: values.try_copy(alloc)?,
             },
             Call::SemRmid { id } => Call::SemRmid { id: *id },
+            Call::Withdraw { name } => Call::Withdraw { name: *name },
         })
     }
 }

@@ -1,6 +1,6 @@
 //! Where a call can be carried out.
 ghost use Rattle.std.specs.Prelude.{◌≡◌};
-ghost use Rattle.pico_base.specs.Home.{home_of};
+ghost use Rattle.pico_base.specs.Home.{home_of, home_of_process, home_of_withdrawal};
 
 use crate::{Call, Home, Name, Pid, SigArg};
 
@@ -14,13 +14,7 @@ pub fn home(caller: Pid, call: &Call) -> Home
             sig: SigArg::Bad,
             ..
         } => Home::Own,
-        Call::Kill { pid, .. } => {
-            if *pid == caller {
-                Home::Own
-            } else {
-                Home::At(Name::Proc(*pid))
-            }
-        }
+        Call::Kill { pid, .. } => home_of_process(caller, *pid),
         Call::MsgGet { key: Some(_), .. } | Call::SemGet { key: Some(_), .. } => Home::Keys,
         Call::MsgRmid { id } => Home::Removal(Name::Msg(*id)),
         Call::SemRmid { id } => Home::Removal(Name::Sem(*id)),
@@ -36,6 +30,29 @@ pub fn home(caller: Pid, call: &Call) -> Home
         | Call::SemSetVal { id, .. }
         | Call::SemGetAll { id }
         | Call::SemSetAll { id, .. } => Home::At(Name::Sem(*id)),
+        Call::Withdraw { name } => home_of_withdrawal(caller, name),
         _ => Home::Own,
+    }
+}
+
+/// The home of what concerns this process alone.
+fn home_of_process(caller: Pid, pid: Pid) -> Home
+    ensures { result ≡ home_of_process caller pid }
+{
+    if pid == caller {
+        Home::Own
+    } else {
+        Home::At(Name::Proc(pid))
+    }
+}
+
+/// The home of a withdrawal from this name.
+fn home_of_withdrawal(caller: Pid, name: &Name) -> Home
+    ensures { result ≡ home_of_withdrawal caller name.now }
+{
+    match name {
+        Name::Proc(pid) => home_of_process(caller, *pid),
+        Name::Msg(id) => Home::At(Name::Msg(*id)),
+        Name::Sem(id) => Home::At(Name::Sem(*id)),
     }
 }
