@@ -285,6 +285,7 @@ module _ (k : Kernel) (pid : ℕ) (a : Alive) (n : ℕ) (v : IsValid k) where
   grew-effect (calls.SemSetAll id values) u =
       from-keeps n k _ (keeps-named k (get k.sets id) _ (λ s. keeps-set k id (set_all s values)))
   grew-effect (calls.SemRmid id) u = from-keeps n k _ (keeps-named k (get k.sets id) _ (λ s kind. refl))
+  grew-effect (calls.Withdraw name) u = tt
 
 -- What follows an effect leaves the used numbers, and what is there.
 

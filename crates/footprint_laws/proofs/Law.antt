@@ -1,10 +1,12 @@
 -- The law at each call.
-use Rattle.std.proofs.Common.{◌≡◌, ℕ, List, Option, Some, None, refl}
+use Rattle.std.proofs.Common.{◌≡◌, ℕ, Bool, true, false, if◌then◌else◌, not, List, Option, Some, None, refl, sym, subst}
 use Rattle.pico_base.specs.declared.call.Call.{Call}
 use Rattle.pico_base.specs.declared.call.Call.TheVariants as calls
-use Rattle.kernel_model.specs.Kernel.{Kernel}
+use Rattle.pico_base.specs.declared.numbers.Name.{Name}
+use Rattle.kernel_model.specs.Kernel.{Kernel, living_at}
+use Rattle.kernel_model.specs.Row.{Alive}
 use Rattle.pico_base.specs.declared.numbers.Kind.{Kind}
-use Rattle.kernel_model.specs.Transition.{Successor, transition}
+use Rattle.kernel_model.specs.Transition.{Successor, is_spent, transition, transition_by}
 use Rattle.kernel_model.specs.Footprint.{Part, footprint}
 use Rattle.kernel_model.specs.FootprintLaw.{GrowsBy, SameSteps, FootprintLaw}
 use Rattle.footprint_laws.proofs.Stepped.{AlikeSteps}
@@ -14,6 +16,28 @@ use Rattle.footprint_laws.proofs.Processes.{fork-law, getpid-law, kill-law, acti
 use Rattle.footprint_laws.proofs.Queues.{get_queue-law, send-law, receive-law, stat-law, set_bytes-law, remove_queue-law}
 use Rattle.footprint_laws.proofs.Sets.{get_set-law, operate-law, get_value-law, get_last-law, get_ncnt-law, get_zcnt-law, set_value-law, get_all-law, set_all-law, remove_set-law}
 use Rattle.footprint_laws.proofs.Ends.{exit-law, killed-law}
+
+-- a withdrawal has no step
+nothing-if : (b : Bool) (x : Option Successor) → x ≡ None → (if b then x else None) ≡ None
+nothing-if true x h = h
+nothing-if false x h = refl
+
+no-step : (k : Kernel) (pid n : ℕ) (name : Name) (o : Option Alive)
+    → transition_by k pid (calls.Withdraw name) n o ≡ None
+no-step k pid n name None = refl
+no-step k pid n name (Some a) = nothing-if (not (is_spent a.allowance)) None refl
+
+alike-nothing : (parts : List Part) (j k : Kernel) (x y : Option Successor) → x ≡ None → y ≡ None
+    → AlikeSteps parts j k x y
+alike-nothing parts j k x y none nothing =
+    subst (λ (s : Option Successor). AlikeSteps parts j k s y) (sym none)
+    (subst (λ (s : Option Successor). AlikeSteps parts j k None s) (sym nothing) tt)
+
+withdraw-law : (j k : Kernel) (pid n : ℕ) (name : Name) → LawAt j k pid (calls.Withdraw name) n
+withdraw-law j k pid n name vj vk h uj uk =
+    alike-nothing (footprint j pid (calls.Withdraw name) n) j k (transition j pid (calls.Withdraw name) n)
+    (transition k pid (calls.Withdraw name) n) (no-step j pid n name (living_at j pid))
+    (no-step k pid n name (living_at k pid))
 
 law-at : (j k : Kernel) (pid n : ℕ) (call : Call) → LawAt j k pid call n
 law-at j k pid n (calls.Fork block) = fork-law j k pid n block
@@ -42,6 +66,7 @@ law-at j k pid n (calls.SemSetVal id num value) = set_value-law j k pid n id num
 law-at j k pid n (calls.SemGetAll id) = get_all-law j k pid n id
 law-at j k pid n (calls.SemSetAll id values) = set_all-law j k pid n id values
 law-at j k pid n (calls.SemRmid id) = remove_set-law j k pid n id
+law-at j k pid n (calls.Withdraw name) = withdraw-law j k pid n name
 
 -- the same step but for the numbers used, and these
 with-growth : (parts : List Part) (call : Call) (n : ℕ) (j k : Kernel) (x y : Option Successor)

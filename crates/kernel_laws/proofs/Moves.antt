@@ -306,6 +306,7 @@ after-effect P k pid a (calls.SemSetAll id values) n m =
     (λ s l. after-changed_set P k id (set_all s values) m.same (λ next. m.fills id values s next l))
 after-effect P k pid a (calls.SemRmid id) n m =
     after-named P k (get k.sets id) (λ _. remove_set k id) m.same (λ s l. m.removes_set id)
+after-effect P k pid a (calls.Withdraw name) n m = tt
 
 -- and it holds where a doomed caller has nothing left
 abbrev pub Finishes : (Kernel → Type 0) → ℕ → Type 0

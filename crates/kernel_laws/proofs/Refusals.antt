@@ -193,6 +193,7 @@ keeps-effect k pid a (calls.SemSetAll id values) n =
     keeps-named k (get k.sets id) (λ s. change_set k id (set_all s values))
     (λ s. keeps-changed_set k id (set_all s values))
 keeps-effect k pid a (calls.SemRmid id) n = keeps-named k (get k.sets id) (λ _. remove_set k id) (λ s. not_true)
+keeps-effect k pid a (calls.Withdraw name) n = tt
 
 -- after the entry a doomed caller has nothing left
 to_next : (k : Kernel) (pid : ℕ) (a : Alive) (result : Kernel) (next : Kernel) → result ≡ k → living_at k pid ≡ Some a

@@ -50,6 +50,7 @@ with_target calls.SigPending n = calls.SigPending
 with_target (calls.Handled sig) n = calls.Handled sig
 with_target (calls.MsgGet key create excl) n = calls.MsgGet key create excl
 with_target (calls.SemGet key count create excl) n = calls.SemGet key count create excl
+with_target (calls.Withdraw name) n = calls.Withdraw name
 
 abbrev pub call_from : Call → Vars → Option ℕ → Call
 call_from call vars None = call
@@ -168,6 +169,7 @@ is_in_range (calls.SemSetVal id num value) = is_place id num && is_u16 value
 is_in_range (calls.SemGetAll id) = is_u32 id
 is_in_range (calls.SemSetAll id values) = is_u32 id && (is_between 1 2048 (length values) && list_all is_u16 values)
 is_in_range (calls.SemRmid id) = is_u32 id
+is_in_range (calls.Withdraw name) = false
 
 -- a call whose process or object a variable can name
 abbrev pub can_name : Call → Bool
@@ -198,6 +200,7 @@ can_name (calls.Handled sig) = false
 can_name (calls.MsgGet key create excl) = false
 can_name (calls.SemGet key count create excl) = false
 can_name (calls.WaitPid None nohang) = false
+can_name (calls.Withdraw name) = false
 
 -- a process number that the script writes isn't 0
 abbrev pub is_process_in_range : Call → Bool
@@ -228,6 +231,7 @@ is_process_in_range (calls.SemSetVal id num value) = true
 is_process_in_range (calls.SemGetAll id) = true
 is_process_in_range (calls.SemSetAll id values) = true
 is_process_in_range (calls.SemRmid id) = true
+is_process_in_range (calls.Withdraw name) = true
 
 -- Lines.
 

@@ -5,6 +5,8 @@ use Rattle.std.specs.Fmt.{decimal, signed_decimal}
 use Rattle.pico_base.specs.declared.call.Call.{Call}
 use Rattle.pico_base.specs.declared.call.Call.TheVariants as calls
 use Rattle.pico_base.specs.declared.call.SemStep.{SemStep}
+use Rattle.pico_base.specs.declared.numbers.Name.{Name}
+use Rattle.pico_base.specs.declared.numbers.Name.TheVariants.{Proc, Msg, Sem}
 use Rattle.pico_base.specs.declared.reply.Reply.{Reply}
 use Rattle.pico_base.specs.declared.reply.Reply.TheVariants as replies
 use Rattle.pico_base.specs.declared.reply.Errno.{Errno}
@@ -142,7 +144,13 @@ how_words how = codes "sigprocmask " ++ how_name how ++ 32 ∷ []
 abbrev pub sigprocmask_text : How → PerSignal Bool → List ℕ
 sigprocmask_text how set = how_words how ++ set_text set
 
--- the call as a script would have it, with actual numbers
+-- where a process stops to wait
+abbrev pub withdrawal_text : Name → List ℕ
+withdrawal_text (Proc pid) = labelled (codes "withdraw proc ") pid
+withdrawal_text (Msg id) = labelled (codes "withdraw msg ") id
+withdrawal_text (Sem id) = labelled (codes "withdraw sem ") id
+
+-- the call as a script would have it, with actual numbers; no script has the last
 abbrev pub call_text : Script → Call → List ℕ
 call_text script (calls.Fork block) = codes "fork " ++ name_of_block (block_at script block)
 call_text script (calls.Exit status) = codes "exit " ++ decimal status
@@ -170,6 +178,7 @@ call_text script (calls.SemSetVal id num value) = semctl_at id (codes " setval "
 call_text script (calls.SemGetAll id) = codes "semctl " ++ decimal id ++ codes " getall"
 call_text script (calls.SemSetAll id values) = codes "semctl " ++ decimal id ++ codes " setall " ++ values_text values
 call_text script (calls.SemRmid id) = codes "semctl " ++ decimal id ++ codes " rmid"
+call_text script (calls.Withdraw name) = withdrawal_text name
 
 abbrev pub ending_text : Ending → List ℕ
 ending_text (Exited status) = codes " exited " ++ decimal status

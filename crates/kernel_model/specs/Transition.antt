@@ -27,9 +27,9 @@ pub record Successor : Type 0 where
 abbrev pub successor : Kernel → Outcome → Successor
 successor kernel outcome = record { kernel = kernel; outcome = outcome }
 
--- The table of calls. A call that may have to wait has no effect here (profile). `exit` keeps the low byte of its
--- status (_Exit), `getpid` replies the caller's own number (getpid), and `handled` how often a signal was caught
--- (profile).
+-- The table of calls. A call that may have to wait has no effect here, nor has a withdrawal (profile). `exit` keeps the
+-- low byte of its status (_Exit), `getpid` replies the caller's own number (getpid), and `handled` how often a signal
+-- was caught (profile).
 abbrev pub effect : Kernel → ℕ → Alive → Call → ℕ → Option Effect
 effect k pid a (calls.Fork block) n = fork_effect k pid a n
 effect k pid a (calls.Exit status) n = Some (end_process k pid a (endings.Exited (status % 256)))
@@ -70,6 +70,7 @@ effect k pid a (calls.SemGetAll id) n = Some (on_named k (get k.sets id) (all_va
 effect k pid a (calls.SemSetAll id values) n =
     Some (on_named k (get k.sets id) (λ s. change_set k id (set_all s values)))
 effect k pid a (calls.SemRmid id) n = Some (on_named k (get k.sets id) (λ _. remove_set k id))
+effect k pid a (calls.Withdraw name) n = None
 
 -- Who may act (profile: in POSIX a process that a signal ends does nothing more): a doomed process ends by its signal,
 -- in an entry of its own, and what it may do before is its allowance.
@@ -110,6 +111,7 @@ may_make a (calls.SemSetVal id num value) = not (is_spent a.allowance)
 may_make a (calls.SemGetAll id) = not (is_spent a.allowance)
 may_make a (calls.SemSetAll id values) = not (is_spent a.allowance)
 may_make a (calls.SemRmid id) = not (is_spent a.allowance)
+may_make a (calls.Withdraw name) = not (is_spent a.allowance)
 
 -- a doomed process that lives on after an entry of its own has nothing left but its ending
 abbrev pub finish_call : Kernel → ℕ → Option Alive → Kernel

@@ -1,5 +1,6 @@
--- Calls in a form that may have to wait. They have no effect here, and no script has them (profile).
-use Rattle.std.specs.Prelude.{pos, Bool, false, not, ◌&&◌, int_le}
+-- Calls of callers that wait: those in a form that may have to wait, and a withdrawal, which ends a wait. They have no
+-- effect here, and no script has them (profile).
+use Rattle.std.specs.Prelude.{pos, Bool, true, false, not, ◌&&◌, int_le}
 use Rattle.std.specs.List.{list_any}
 use Rattle.pico_base.specs.declared.call.Call.{Call}
 use Rattle.pico_base.specs.declared.call.Call.TheVariants as calls
@@ -9,12 +10,13 @@ use Rattle.pico_base.specs.declared.call.SemStep.{SemStep}
 abbrev pub may_wait : SemStep → Bool
 may_wait step = int_le step.add (pos 0) && not step.nowait
 
--- without IPC_NOWAIT (msgsnd, msgrcv, semop), or without WNOHANG (waitpid)
+-- without IPC_NOWAIT (msgsnd, msgrcv, semop), without WNOHANG (waitpid), or a withdrawal
 abbrev pub is_waiting : Call → Bool
 is_waiting (calls.MsgSnd id class text nowait) = not nowait
 is_waiting (calls.MsgRcv id class size noerror nowait) = not nowait
 is_waiting (calls.WaitPid child nohang) = not nohang
 is_waiting (calls.SemOp id steps) = list_any may_wait steps
+is_waiting (calls.Withdraw name) = true
 is_waiting (calls.Fork block) = false
 is_waiting (calls.Exit status) = false
 is_waiting (calls.Killed sig) = false

@@ -155,9 +155,10 @@ impl Kernel {
             Call::SemGetAll { id } => Ok(self.all_values(*id)?),
             Call::SemSetAll { id, values } => Ok(self.set_all(*id, values)),
             Call::SemRmid { id } => Ok(self.remove_set(*id)),
-            Call::WaitPid { .. } | Call::MsgSnd { .. } | Call::MsgRcv { .. } => Err(
-                CallFault::NotAllowed,
-            ),
+            Call::WaitPid { .. }
+            | Call::MsgSnd { .. }
+            | Call::MsgRcv { .. }
+            | Call::Withdraw { .. } => Err(CallFault::NotAllowed),
         }
     }
 }
