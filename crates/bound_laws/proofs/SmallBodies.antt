@@ -247,6 +247,9 @@ served-on pid (calls.Killed sig) h = not-made h
 served-on pid (calls.Kill target Bad) h = (Proc pid, refl)
 served-on pid (calls.Kill target Zero) h = kill-on pid target (nat_eq target pid)
 served-on pid (calls.Kill target (Is sig)) h = kill-on pid target (nat_eq target pid)
+served-on pid (calls.Withdraw (Proc target)) h = kill-on pid target (nat_eq target pid)
+served-on pid (calls.Withdraw (Msg id)) h = (Msg id, refl)
+served-on pid (calls.Withdraw (Sem id)) h = (Sem id, refl)
 served-on pid call h = (_, refl)
 
 served-small : (k next : Kernel) (pid : ℕ) (call : Call) (name : Name) (outcome : Outcome) → AreAllSmall k

@@ -229,6 +229,7 @@ module _ (k : Kernel) (pid n : ℕ) (a : Alive) where
             (λ q. receives k pid false id (receive q pid class size noerror));
       }
   gives (calls.MsgRcv id class size noerror false) s valid lives = absurd (cc)
+  gives (calls.Withdraw name) s valid lives = absurd (cc)
   gives (calls.MsgStat id) s valid lives =
       record {
         result = _;

@@ -222,6 +222,7 @@ asked-again (calls.SigProcMask how set) rest h = absurd (false≢true h.1)
 asked-again calls.SigPending rest h = absurd (false≢true h.1)
 asked-again (calls.Handled sig) rest h = absurd (false≢true h.1)
 asked-again (calls.WaitPid child nohang) rest h = absurd (false≢true h.1)
+asked-again (calls.Withdraw name) rest h = absurd (false≢true h.1)
 
 -- a call that a frame asks for is read as it is spelled
 pub asked_call-inverse : Inverse Call IsAskedCall call_bytes asked_call_at

@@ -39,7 +39,8 @@ is_sigarg (Is sig) = true
 is_sigarg Bad = false
 
 -- The calls that one node asks another to carry out. The private gets and `kill` with a number that is no signal's are
--- carried out by their caller, and so are all calls on the caller itself.
+-- carried out by their caller, and so are all calls on the caller itself. A withdrawal isn't one of them, since nobody
+-- waits.
 abbrev pub is_call : Call → Bool
 is_call (calls.Kill pid sig) = is_sigarg sig
 is_call (calls.MsgGet (Some key) create excl) = is_nonzero key

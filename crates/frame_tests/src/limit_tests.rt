@@ -65,6 +65,19 @@ fn a_ticket_is_at_least_1_and_a_body_has_262144_bytes_at_most(rt: HostRuntime) -
     Ok(())
 }
 
+#[test]
+fn no_frame_asks_for_a_withdrawal(rt: HostRuntime) -> Result<(), Fail> {
+    for name in [Name::Msg(Id(1)), Name::Sem(Id(1)), Name::Proc(Pid(3))] {
+        let frame = Frame::Ask {
+            ticket: 1,
+            pid: Pid(2),
+            call: Call::Withdraw { name },
+        };
+        assert!(rt; !is_within_limits(&frame));
+    }
+    Ok(())
+}
+
 /// What leaves has 17 bytes beside its deeds, and each of these has 9 beside its body.
 #[test]
 fn deeds_are_255_at_most(rt: HostRuntime) -> Result<(), Fail> {

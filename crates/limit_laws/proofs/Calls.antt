@@ -18,13 +18,14 @@ use Rattle.pico_base.specs.declared.call.Call.{Call}
 use Rattle.pico_base.specs.declared.signal.SigArg.TheVariants.{Zero, Is, Bad}
 use Rattle.world_model.specs.Calls.{is_for_others}
 
--- keys aren't 0, and texts and lists are those that a script has room for
+-- keys aren't 0, texts and lists are those that a script has room for, and no script has a withdrawal
 abbrev pub IsSpellable : Call → Type 0
 IsSpellable (calls.MsgGet (Some key) create excl) = nat_lt 0 key ≡ true
 IsSpellable (calls.SemGet (Some key) count create excl) = nat_lt 0 key ≡ true
 IsSpellable (calls.MsgSnd id class text nowait) = length text ≤ 8192
 IsSpellable (calls.SemOp id steps) = (1 ≤ length steps) × (length steps ≤ 1024)
 IsSpellable (calls.SemSetAll id values) = (1 ≤ length values) × (length values ≤ 2048)
+IsSpellable (calls.Withdraw name) = ⊥
 IsSpellable call = Unit {0}
 
 -- ---- calls in range
@@ -69,6 +70,7 @@ range-is-spellable (calls.SemOp id steps) h =
     between 1 1024 (length steps) (and_parts _ _ (and_parts _ _ h).1).0
 range-is-spellable (calls.SemSetAll id values) h =
     between 1 2048 (length values) (and_parts _ _ (and_parts _ _ h).1).0
+range-is-spellable (calls.Withdraw name) h = false≢true h
 range-is-spellable call h = tt
 
 target-is-spellable : (call : Call) (n : ℕ) → IsSpellable call → IsSpellable (with_target call n)
@@ -77,6 +79,7 @@ target-is-spellable (calls.SemGet (Some key) count create excl) n h = h
 target-is-spellable (calls.MsgSnd id class text nowait) n h = h
 target-is-spellable (calls.SemOp id steps) n h = h
 target-is-spellable (calls.SemSetAll id values) n h = h
+target-is-spellable (calls.Withdraw name) n h = h
 target-is-spellable call n h = tt
 
 -- and so it is with any variable's value in the place of its number.
@@ -117,6 +120,7 @@ call-is-within pid (calls.SemGetPid id num) h others = refl
 call-is-within pid (calls.SemGetNcnt id num) h others = refl
 call-is-within pid (calls.SemGetZcnt id num) h others = refl
 call-is-within pid (calls.SemRmid id) h others = refl
+call-is-within pid (calls.Withdraw name) h others = absurd h
 call-is-within pid call h others = absurd (false≢true others)
 
 -- and short.

@@ -228,4 +228,5 @@ module _ (k : Kernel) (queues : (id : ℕ) (q : Queue) → get k.queues id ≡ S
       (λ s _. set-change-is-short k id (set_all s values))
   effect-is-short pid a (calls.SemRmid id) n h =
       named-is-short k (get k.sets id) (λ _. remove_set k id) (λ s _. num-is-short 0)
+  effect-is-short pid a (calls.Withdraw name) n h = tt
   effect-is-short pid a call n h = absurd (false≢true h)

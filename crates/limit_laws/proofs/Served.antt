@@ -357,3 +357,4 @@ module _ (own most : ℕ) where
       (λ next done. set-within-rule.filled s values next (set-is k id s h is) done))
   effect-within k pid a (calls.SemRmid id) h family makes named own_is =
       named-within k (get k.sets id) (λ _. remove_set k id) h (λ s is. remove-set-within k id h)
+  effect-within k pid a (calls.Withdraw name) h family makes named own_is = tt

@@ -16,7 +16,7 @@ use Rattle.pico_base.specs.declared.reply.Reply.{Reply}
 use Rattle.pico_base.specs.declared.reply.Reply.TheVariants as replies
 use Rattle.pico_base.specs.declared.signal.SigArg.{SigArg}
 use Rattle.pico_base.specs.declared.signal.SigArg.TheVariants.{Zero, Is, Bad}
-use Rattle.pico_base.specs.Home.{home_of, home_of_kill}
+use Rattle.pico_base.specs.Home.{home_of, home_of_process}
 use Rattle.pico_base.specs.Signal.{at}
 use Rattle.number_maps.specs.Maps.{get}
 use Rattle.kernel_model.specs.Signals.{Signals, act_on, with_mask, raise}
@@ -184,7 +184,7 @@ module _ (k : Kernel) (pid n : ℕ) (a : Alive) where
   here lives = ap process_body (same_living (get k.processes pid) a lives)
 
   kill_named : (target : ℕ) (sig : SigArg) (name : Name) (e : Effect) (b : Bool) → nat_eq target pid ≡ b
-      → home_of pid (calls.Kill target sig) ≡ home_of_kill pid target
+      → home_of pid (calls.Kill target sig) ≡ home_of_process pid target
       → (is_own pid (calls.Kill target sig) ≡ true → MakesOwnCalls)
       → name_in pid (if b then homes.Own else homes.At (Proc target)) ≡ Some name
       → Some (kill_at k pid target sig (get k.processes target)) ≡ Some e → Serves k pid (calls.Kill target sig) name e
@@ -342,3 +342,4 @@ module _ (k : Kernel) (pid n : ℕ) (a : Alive) where
   effect-serves (calls.SemRmid id) name e s l named eff =
       conclude k pid (calls.SemRmid id) (Sem id) name _ e named eff
       (at-set k id pid (calls.SemRmid id) (λ _. remove_set k id) (λ s there. set-removed k id) (get k.sets id) refl)
+  effect-serves (calls.Withdraw place) name e s l named eff = absurd (cc)

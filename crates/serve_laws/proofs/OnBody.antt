@@ -61,6 +61,7 @@ has-effect k pid n a (calls.SemGet key count create excl) s = absurd (cc)
 has-effect k pid n a (calls.WaitPid child false) s = absurd (cc)
 has-effect k pid n a (calls.MsgSnd id class text false) s = absurd (cc)
 has-effect k pid n a (calls.MsgRcv id class size noerror false) s = absurd (cc)
+has-effect k pid n a (calls.Withdraw name) s = absurd (cc)
 has-effect k pid n a (calls.WaitPid child true) s = has _
 has-effect k pid n a (calls.MsgSnd id class text true) s = has _
 has-effect k pid n a (calls.MsgRcv id class size noerror true) s = has _

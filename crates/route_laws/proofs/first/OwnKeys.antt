@@ -5,10 +5,11 @@ use Rattle.pico_base.specs.declared.call.Call.{Call}
 use Rattle.pico_base.specs.declared.call.Call.TheVariants as calls
 use Rattle.pico_base.specs.declared.call.Home.{Home}
 use Rattle.pico_base.specs.declared.call.Home.TheVariants as homes
-use Rattle.pico_base.specs.declared.numbers.Name.TheVariants.{Proc}
+use Rattle.pico_base.specs.declared.numbers.Name.{Name}
+use Rattle.pico_base.specs.declared.numbers.Name.TheVariants.{Proc, Msg, Sem}
 use Rattle.pico_base.specs.declared.script.Script.{Script}
 use Rattle.pico_base.specs.declared.signal.SigArg.TheVariants.{Zero, Is, Bad}
-use Rattle.pico_base.specs.Home.{home_of, home_of_kill}
+use Rattle.pico_base.specs.Home.{home_of, home_of_process, home_of_withdrawal}
 use Rattle.node_model.specs.declared.held.Held.{Held}
 use Rattle.node_model.specs.declared.held.Held.TheVariants.{Request}
 use Rattle.world_model.specs.Step.{Step}
@@ -24,12 +25,17 @@ abbrev is_keys_home : Home → Bool
 is_keys_home homes.Keys = true
 is_keys_home home = false
 
-none-by-kill : (pid other : ℕ) → is_keys_home (home_of_kill pid other) ≡ false
+none-by-kill : (pid other : ℕ) → is_keys_home (home_of_process pid other) ≡ false
 none-by-kill pid other = by-test (other == pid)
   where
     by-test : (t : Bool) → is_keys_home (if t then homes.Own else homes.At (Proc other)) ≡ false
     by-test true = refl
     by-test false = refl
+
+none-by-withdrawal : (pid : ℕ) (name : Name) → is_keys_home (home_of_withdrawal pid name) ≡ false
+none-by-withdrawal pid (Proc other) = none-by-kill pid other
+none-by-withdrawal pid (Msg id) = refl
+none-by-withdrawal pid (Sem id) = refl
 
 -- such a call has no key
 none-else : {A : Type 0} (home : Home) → is_keys_home home ≡ false → home ≡ homes.Keys → A
@@ -49,4 +55,6 @@ route-own-key script v s ticket pid (calls.Kill other Zero) rest b holds high en
     none-else _ (none-by-kill pid other) on
 route-own-key script v s ticket pid (calls.Kill other (Is sig)) rest b holds high enough on =
     none-else _ (none-by-kill pid other) on
+route-own-key script v s ticket pid (calls.Withdraw name) rest b holds high enough on =
+    none-else _ (none-by-withdrawal pid name) on
 route-own-key script v s ticket pid call rest b holds high enough on = none-else (home_of pid call) refl on

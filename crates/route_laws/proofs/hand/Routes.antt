@@ -7,10 +7,10 @@ use Rattle.pico_base.specs.declared.call.Call.TheVariants as calls
 use Rattle.pico_base.specs.declared.call.Home.{Home}
 use Rattle.pico_base.specs.declared.call.Home.TheVariants as homes
 use Rattle.pico_base.specs.declared.numbers.Name.{Name}
-use Rattle.pico_base.specs.declared.numbers.Name.TheVariants.{Proc}
+use Rattle.pico_base.specs.declared.numbers.Name.TheVariants.{Proc, Msg, Sem}
 use Rattle.pico_base.specs.declared.script.Script.{Script}
 use Rattle.pico_base.specs.declared.signal.SigArg.TheVariants.{Zero, Is, Bad}
-use Rattle.pico_base.specs.Home.{home_of, home_of_kill, home_of_get}
+use Rattle.pico_base.specs.Home.{home_of, home_of_process, home_of_get, home_of_withdrawal}
 use Rattle.rpc_frame.specs.declared.asked.Asked.{Asked}
 use Rattle.rpc_frame.specs.declared.frame.Frame.{Frame}
 use Rattle.rpc_frame.specs.declared.frame.Frame.TheVariants as frames
@@ -55,12 +55,17 @@ abbrev removes : Home → Bool
 removes (homes.Removal other) = is_object other
 removes home = true
 
-removes-kill : (pid other : ℕ) → removes (home_of_kill pid other) ≡ true
+removes-kill : (pid other : ℕ) → removes (home_of_process pid other) ≡ true
 removes-kill pid other = by-test (other == pid)
   where
     by-test : (t : Bool) → removes (if t then homes.Own else homes.At (Proc other)) ≡ true
     by-test true = refl
     by-test false = refl
+
+removes-withdrawal : (pid : ℕ) (name : Name) → removes (home_of_withdrawal pid name) ≡ true
+removes-withdrawal pid (Proc other) = removes-kill pid other
+removes-withdrawal pid (Msg id) = refl
+removes-withdrawal pid (Sem id) = refl
 
 removes-get : (key : Option ℕ) → removes (home_of_get key) ≡ true
 removes-get None = refl
@@ -72,6 +77,7 @@ may-remove pid (calls.Kill other Zero) = removes-kill pid other
 may-remove pid (calls.Kill other (Is sig)) = removes-kill pid other
 may-remove pid (calls.MsgGet key create excl) = removes-get key
 may-remove pid (calls.SemGet key count create excl) = removes-get key
+may-remove pid (calls.Withdraw name) = removes-withdrawal pid name
 may-remove pid call = refl
 
 -- a removal is of a queue or a set

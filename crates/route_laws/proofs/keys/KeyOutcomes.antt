@@ -42,7 +42,7 @@ use Rattle.world_laws.specs.Sights.{directory_of, is_born_in, node_of}
 use Rattle.world_laws.specs.Families.{NodeHolds}
 use Rattle.world_laws.specs.Invariant.{Holds}
 use Rattle.route_laws.proofs.hand.Answering.{IsPlainCall}
-use Rattle.route_laws.proofs.keys.NumberKinds.{kill-is}
+use Rattle.route_laws.proofs.keys.NumberKinds.{kill-is, withdrawal-is}
 use Rattle.route_laws.proofs.keys.MadeHere.{MakesOf, Tables, made_node}
 use Rattle.route_laws.proofs.keys.Taking.{TakesNumber, takes-number, without_number}
 
@@ -65,6 +65,8 @@ by-home pid (calls.SemGet None count create excl) h = absurd (false≢true h)
 by-home pid (calls.Kill other Bad) h = absurd (false≢true h)
 by-home pid (calls.Kill other Zero) h = absurd (false≢true (sym (kill-is is_keys false pid other refl refl) ∙ h))
 by-home pid (calls.Kill other (Is sig)) h = absurd (false≢true (sym (kill-is is_keys false pid other refl refl) ∙ h))
+by-home pid (calls.Withdraw name) h =
+    absurd (false≢true (sym (withdrawal-is is_keys false pid name refl (λ other. refl)) ∙ h))
 by-home pid call h = absurd (false≢true h)
 
 -- a call that belongs to the keys is one of them

@@ -5,8 +5,9 @@ use Rattle.pico_base.specs.declared.call.Home.{Home}
 use Rattle.pico_base.specs.declared.call.Home.TheVariants as homes
 use Rattle.pico_base.specs.declared.numbers.Kind.{Kind}
 use Rattle.pico_base.specs.declared.numbers.Kind.TheVariants as kinds
-use Rattle.pico_base.specs.declared.numbers.Name.TheVariants.{Proc}
-use Rattle.pico_base.specs.Home.{home_of_kill}
+use Rattle.pico_base.specs.declared.numbers.Name.{Name}
+use Rattle.pico_base.specs.declared.numbers.Name.TheVariants.{Proc, Msg, Sem}
+use Rattle.pico_base.specs.Home.{home_of_process, home_of_withdrawal}
 use Rattle.node_model.specs.Kinds.{for_kind, is_same_kind, with_kind}
 use Rattle.node_model.specs.Directory.{Directory, with_range}
 use Rattle.node_model.specs.Leases.{Leases}
@@ -58,9 +59,16 @@ leased-twice m kinds.Sem few many = refl
 
 -- what is so of one's own calls and of those on a process is so of a kill
 pub kill-is : {A : Type 0} (f : Home → A) (a : A) (pid other : ℕ) → f homes.Own ≡ a → f (homes.At (Proc other)) ≡ a
-    → f (home_of_kill pid other) ≡ a
+    → f (home_of_process pid other) ≡ a
 kill-is f a pid other own at = by-test (other == pid)
   where
     by-test : (t : Bool) → f (if t then homes.Own else homes.At (Proc other)) ≡ a
     by-test true = own
     by-test false = at
+
+-- and what is so of those on any name, of a withdrawal
+pub withdrawal-is : {A : Type 0} (f : Home → A) (a : A) (pid : ℕ) (name : Name) → f homes.Own ≡ a
+    → ((other : Name) → f (homes.At other) ≡ a) → f (home_of_withdrawal pid name) ≡ a
+withdrawal-is f a pid (Proc other) own on = kill-is f a pid other own (on (Proc other))
+withdrawal-is f a pid (Msg id) own on = on (Msg id)
+withdrawal-is f a pid (Sem id) own on = on (Sem id)

@@ -43,7 +43,7 @@ use Rattle.world_laws.specs.Invariant.{Holds}
 use Rattle.world_laws.specs.Ranges.{KeysHold}
 use Rattle.rule_laws.proofs.Nodes.{holds-stay, leader-stage, processes-with}
 use Rattle.route_laws.proofs.hand.Served.{IsAtLeader, at-leader}
-use Rattle.route_laws.proofs.keys.NumberKinds.{kill-is}
+use Rattle.route_laws.proofs.keys.NumberKinds.{kill-is, withdrawal-is}
 
 -- ---- which calls these are
 
@@ -76,6 +76,8 @@ by-home pid (calls.Kill other Zero) name h =
     absurd (not-removed name (sym (kill-is removed_in None pid other refl refl) ∙ h))
 by-home pid (calls.Kill other (Is sig)) name h =
     absurd (not-removed name (sym (kill-is removed_in None pid other refl refl) ∙ h))
+by-home pid (calls.Withdraw place) name h =
+    absurd (not-removed name (sym (withdrawal-is removed_in None pid place refl (λ other. refl)) ∙ h))
 by-home pid call name h = absurd (not-removed name h)
 
 -- a removal is of a queue or of a set

@@ -9,7 +9,7 @@ use Rattle.pico_base.specs.declared.call.Call.TheVariants as calls
 use Rattle.pico_base.specs.declared.call.Home.TheVariants as homes
 use Rattle.pico_base.specs.declared.numbers.Kind.{Kind}
 use Rattle.pico_base.specs.declared.numbers.Name.{Name}
-use Rattle.pico_base.specs.declared.numbers.Name.TheVariants.{Proc}
+use Rattle.pico_base.specs.declared.numbers.Name.TheVariants.{Proc, Msg, Sem}
 use Rattle.pico_base.specs.declared.script.Script.{Script}
 use Rattle.pico_base.specs.declared.script.Event.TheVariants as events
 use Rattle.pico_base.specs.declared.signal.SigArg.TheVariants.{Zero, Is, Bad}
@@ -80,6 +80,10 @@ ends-by-end pid (calls.MsgGet None create excl) h = absurd (false≢true h)
 ends-by-end pid (calls.MsgGet (Some key) create excl) h = absurd (false≢true h)
 ends-by-end pid (calls.SemGet None count create excl) h = absurd (false≢true h)
 ends-by-end pid (calls.SemGet (Some key) count create excl) h = absurd (false≢true h)
+ends-by-end pid (calls.Withdraw (Proc to)) h =
+    absurd (own-or-at (to == pid) (Proc to) (calls.Withdraw (Proc to)) h)
+ends-by-end pid (calls.Withdraw (Msg id)) h = absurd (false≢true h)
+ends-by-end pid (calls.Withdraw (Sem id)) h = absurd (false≢true h)
 ends-by-end pid call h = absurd (false≢true h)
 
 -- the row allows it, where the process may make it
