@@ -136,7 +136,7 @@ fn may_wait(steps: &[SemStep]) -> bool
     steps.iter().any(|step| step.add <= 0 && !step.nowait)
 }
 
-/// Whether the call has a form that may have to wait.
+/// Whether the call has a form that may have to wait, or ends a wait.
 fn is_waiting(call: &Call) -> bool
     ensures { result ≡ is_waiting_call call.now }
 {
@@ -144,6 +144,7 @@ fn is_waiting(call: &Call) -> bool
         Call::MsgSnd { nowait, .. } | Call::MsgRcv { nowait, .. } => !*nowait,
         Call::WaitPid { nohang, .. } => !*nohang,
         Call::SemOp { steps, .. } => may_wait(steps.as_slice()),
+        Call::Withdraw { .. } => true,
         _ => false,
     }
 }

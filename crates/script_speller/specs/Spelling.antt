@@ -6,6 +6,8 @@ use Rattle.std.specs.Fmt.{decimal, signed_decimal}
 use Rattle.pico_base.specs.declared.call.Call.{Call}
 use Rattle.pico_base.specs.declared.call.Call.TheVariants as calls
 use Rattle.pico_base.specs.declared.call.SemStep.{SemStep}
+use Rattle.pico_base.specs.declared.numbers.Name.{Name}
+use Rattle.pico_base.specs.declared.numbers.Name.TheVariants.{Proc, Msg, Sem}
 use Rattle.pico_base.specs.declared.script.Line.{Line}
 use Rattle.pico_base.specs.declared.script.Block.{Block}
 use Rattle.pico_base.specs.declared.script.Script.{Script}
@@ -76,6 +78,7 @@ call_name (calls.SemSetVal id num value) = codes "semctl"
 call_name (calls.SemGetAll id) = codes "semctl"
 call_name (calls.SemSetAll id values) = codes "semctl"
 call_name (calls.SemRmid id) = codes "semctl"
+call_name (calls.Withdraw name) = codes "withdraw"
 
 -- the words of a get behind its key
 abbrev pub created : Bool → Bool → List (List ℕ)
@@ -92,6 +95,12 @@ set_key (Some key) count create excl = decimal key ∷ decimal count ∷ created
 -- a command on a semaphore of a set
 abbrev pub semaphore_words : Option ℕ → ℕ → List ℕ → ℕ → List (List ℕ)
 semaphore_words from id command num = object_text from id ∷ command ∷ decimal num ∷ []
+
+-- where a process stops to wait
+abbrev pub withdrawal_words : Name → List (List ℕ)
+withdrawal_words (Proc pid) = codes "proc" ∷ decimal pid ∷ []
+withdrawal_words (Msg id) = codes "msg" ∷ decimal id ∷ []
+withdrawal_words (Sem id) = codes "sem" ∷ decimal id ∷ []
 
 -- the words behind a call's name. A variable stands in place of the process or the object that the call names
 abbrev pub arguments : Script → Option ℕ → Call → List (List ℕ)
@@ -125,6 +134,7 @@ arguments script from (calls.SemSetVal id num value) =
 arguments script from (calls.SemGetAll id) = object_text from id ∷ codes "getall" ∷ []
 arguments script from (calls.SemSetAll id values) = object_text from id ∷ codes "setall" ∷ values_text values ∷ []
 arguments script from (calls.SemRmid id) = object_text from id ∷ codes "rmid" ∷ []
+arguments script from (calls.Withdraw name) = withdrawal_words name
 
 -- ---- lines
 

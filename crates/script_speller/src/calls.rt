@@ -11,7 +11,7 @@ use crate::words::{
 };
 use call_words::{action_name, how_name, signal_argument, signal_name};
 use pico_base::{
-    Act, Call, How, Id, Key, Memory, Node, Pid, Script, SemStep, Sig, SigArg, SigSet, Var,
+    Act, Call, How, Id, Key, Memory, Name, Node, Pid, Script, SemStep, Sig, SigArg, SigSet, Var,
 };
 use trace_text::push;
 
@@ -267,6 +267,27 @@ fn push_setall(out: &mut Vec<u8>, from: Option<Var>, id: Id, values: &[u32]) -> 
     push_value_word(out, values)
 }
 
+/// A kind of name and a number.
+fn push_kind(out: &mut Vec<u8>, kind: &[u8], number: u32) -> Result<(), Memory>
+    ensures { OnOk result (out.new.items ≡ out.old.items
+        ++ spec.behind_blanks (kind.now ∷ decimal number ∷ [])) }
+{
+    push_word(out, kind)?;
+    push_decimal(out, number)
+}
+
+fn push_withdrawal(out: &mut Vec<u8>, name: &Name) -> Result<(), Memory>
+    ensures { OnOk result (out.new.items ≡ out.old.items
+        ++ (codes "withdraw" ++ spec.behind_blanks (spec.withdrawal_words name.now))) }
+{
+    push(out, b"withdraw")?;
+    match name {
+        Name::Proc(pid) => push_kind(out, b"proc", pid.0),
+        Name::Msg(id) => push_kind(out, b"msg", id.0),
+        Name::Sem(id) => push_kind(out, b"sem", id.0),
+    }
+}
+
 /// Adds a call, with the variable in place of the process or the object that it names.
 pub(crate) fn push_call(
     out: &mut Vec<u8>,
@@ -330,5 +351,6 @@ pub(crate) fn push_call(
         Call::SemGetAll { id } => push_command(out, b"semctl", from, *id, b"getall"),
         Call::SemSetAll { id, values } => push_setall(out, from, *id, values.as_slice()),
         Call::SemRmid { id } => push_command(out, b"semctl", from, *id, b"rmid"),
+        Call::Withdraw { name } => push_withdrawal(out, name),
     }
 }

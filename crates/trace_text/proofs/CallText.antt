@@ -365,3 +365,4 @@ call-again script (calls.SemRmid id) more sound h =
     let front : call_text script (calls.SemRmid id) ++ tail more ≡ codes "semctl "
     ++ (decimal id ++ (codes " rmid" ++ tail more)) = simp append_assoc in
     ap (call_at script) front ∙ at-semctl script _ ∙ removal-again more id (u32-bound id h)
+call-again script (calls.Withdraw name) more sound h = absurd (cc)

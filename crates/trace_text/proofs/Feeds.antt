@@ -372,3 +372,4 @@ call script (calls.SemSetAll id vs) sound h =
     (on (codes "semctl ") id (codes " setall ") refl p.0 refl)
     (values 65535 (omega arith) vs (all-from is_u16 (λ n. n ≤ 65535) u16-bound vs q.1))
 call script (calls.SemRmid id) sound h = on (codes "semctl ") id (codes " rmid") refl h refl
+call script (calls.Withdraw name) sound h = absurd (cc)

@@ -23,7 +23,8 @@ is_text text = list_all is_byte text && (not (is_repeated text) || nat_le (lengt
 abbrev pub is_block : Script → ℕ → Bool
 is_block script k = nat_le 1 k && (nat_le k 32 && is_some (block_at script k))
 
--- A call with arguments in their ranges. A process number may be 0, since a variable may hold 0.
+-- A call with arguments in their ranges. A process number may be 0, since a variable may hold 0. No line has a
+-- withdrawal, since nobody waits.
 abbrev pub is_call : Script → Call → Bool
 is_call script (calls.Fork block) = is_block script block
 is_call script (calls.Exit status) = is_u16 status
@@ -51,6 +52,7 @@ is_call script (calls.SemSetVal id num value) = is_place id num && is_u16 value
 is_call script (calls.SemGetAll id) = is_u32 id
 is_call script (calls.SemSetAll id values) = is_u32 id && (nat_le 1 (length values) && list_all is_u16 values)
 is_call script (calls.SemRmid id) = is_u32 id
+is_call script (calls.Withdraw name) = false
 
 abbrev pub is_ending : Ending → Bool
 is_ending (Exited status) = is_byte status

@@ -182,6 +182,7 @@ pub fn is_call(script: &Script, call: &Call) -> bool
         Call::SemSetVal { id, num, value } => is_semaphore(*id, *num) && is_short(*value),
         Call::SemGetAll { id } | Call::SemRmid { id } => is_id(*id),
         Call::SemSetAll { id, values } => is_id(*id) && are_short(values.as_slice()),
+        Call::Withdraw { .. } => false,
     }
 }
 

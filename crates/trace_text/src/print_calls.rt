@@ -4,7 +4,7 @@ ghost use Rattle.std.specs.Fmt.{decimal};
 ghost use Rattle.kernel_model.specs.Fitting.{block_at};
 ghost use Rattle.kernel_model.specs.Trace as trace;
 
-use crate::fields::{push_pid, push_word};
+use crate::fields::{push_labelled, push_pid, push_word};
 use crate::names::{
     push_action_name, push_how_name, push_set, push_signal_argument, push_signal_call,
 };
@@ -13,7 +13,7 @@ use crate::print_semaphores::{
     push_semctl, push_semctl_at, push_semget, push_semop, push_setall, push_setval,
 };
 use crate::text::{push, push_byte, push_number, push_number_then};
-use pico_base::{Act, Call, How, Memory, Node, Pid, Script, SigArg, SigSet};
+use pico_base::{Act, Call, How, Memory, Name, Node, Pid, Script, SigArg, SigSet};
 
 #[inline(never)]
 fn push_exit(out: &mut Vec<u8>, status: u16) -> Result<(), Memory>
@@ -105,7 +105,18 @@ fn push_sigprocmask(out: &mut Vec<u8>, how: How, set: SigSet) -> Result<(), Memo
     push_set(out, set)
 }
 
-/// Adds a call as a script would have it, with actual numbers.
+#[inline(never)]
+fn push_withdrawal(out: &mut Vec<u8>, name: &Name) -> Result<(), Memory>
+    ensures { OnOk result (out.new.items ≡ out.old.items ++ trace.withdrawal_text name.now) }
+{
+    match name {
+        Name::Proc(pid) => push_labelled(out, b"withdraw proc ", u64::from(pid.0)),
+        Name::Msg(id) => push_labelled(out, b"withdraw msg ", u64::from(id.0)),
+        Name::Sem(id) => push_labelled(out, b"withdraw sem ", u64::from(id.0)),
+    }
+}
+
+/// Adds a call as a script would have it, with actual numbers; no script has a withdrawal.
 pub fn push_call(out: &mut Vec<u8>, script: &Script, call: &Call) -> Result<(), Memory>
     ensures { OnOk result (out.new.items ≡ out.old.items ++ trace.call_text script.now call.now) }
 {
@@ -153,5 +164,6 @@ pub fn push_call(out: &mut Vec<u8>, script: &Script, call: &Call) -> Result<(), 
         Call::SemGetAll { id } => push_semctl(out, *id, b" getall"),
         Call::SemSetAll { id, values } => push_setall(out, *id, values.as_slice()),
         Call::SemRmid { id } => push_semctl(out, *id, b" rmid"),
+        Call::Withdraw { name } => push_withdrawal(out, name),
     }
 }

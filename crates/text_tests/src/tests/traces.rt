@@ -2,12 +2,12 @@
 ghost use Rattle.std.specs.Prelude.{IfOk};
 ghost use Rattle.kernel_model.specs.Script.{IsSoundScript};
 
-use pico_base::{Call, Entries, Entry, Errno, Event, Id, Node, Outcome, Pid, Reply, Script};
+use pico_base::{Call, Entries, Entry, Errno, Event, Id, Name, Node, Outcome, Pid, Reply, Script};
 use script_reader::read_script;
 use std::alloc::Global;
 use std::test::Fail;
 use trace_text::{
-    push, push_byte, push_number, read_trace, write_steps, write_totals, write_trace,
+    CheckFault, push, push_byte, push_number, read_trace, write_steps, write_totals, write_trace,
 };
 
 // A script with two blocks, of which the first forks the second.
@@ -54,6 +54,35 @@ fn a_history_has_a_line_for_each_entry(rt: HostRuntime) -> Result<(), Fail> {
         "totals entries 3 processes 2 notready 1 refused 1\n"
     );
     assert_eq!(rt; text.as_slice(), wanted.as_bytes());
+    Ok(())
+}
+
+// A call that is withdrawn from a queue, a set, and `waitpid`.
+fn three_withdrawals(alloc: Global) -> Result<Entries, Fail> {
+    let withdrawal = |name| {
+        made_by_first(alloc, Call::Withdraw { name }, Reply::Fail(Errno::Eintr))
+    };
+    Ok(Entries::from_vec(vec![in alloc;
+        withdrawal(Name::Msg(Id(1))),
+        withdrawal(Name::Sem(Id(23))),
+        withdrawal(Name::Proc(Pid(1))),
+    ]?))
+}
+
+#[test]
+fn a_withdrawal_is_written_and_not_read(rt: HostRuntime) -> Result<(), Fail> {
+    let alloc = rt.alloc();
+    let script = two_blocks(alloc)?;
+    let text = write_trace(alloc, &script, &three_withdrawals(alloc)?)?;
+    let wanted = concat!(
+        "1 withdraw msg 1 = EINTR by 1\n",
+        "1 withdraw sem 23 = EINTR by 1\n",
+        "1 withdraw proc 1 = EINTR by 1\n",
+        "totals entries 3 processes 1 notready 0 refused 3\n"
+    );
+    assert_eq!(rt; text.as_slice(), wanted.as_bytes());
+    let fault = read_trace(alloc, &script, wanted.as_bytes(), 7).err();
+    assert!(rt; matches!(fault, Some(CheckFault::NotATrace { line: 7 })));
     Ok(())
 }
 
