@@ -4,12 +4,12 @@ use Rattle.std.specs.Option.{option_map_or}
 use Rattle.pico_base.specs.declared.call.Call.{Call}
 use Rattle.pico_base.specs.declared.reply.Outcome.{Outcome}
 use Rattle.pico_base.specs.declared.reply.Reply.{Reply}
-use Rattle.waiting_model.specs.declared.entries.AnyCall.TheVariants.{Plain}
+use Rattle.waiting_model.specs.Calls.{withdrawn_from}
 use Rattle.waiting_model.specs.Waiters.{waiter}
 use Rattle.waiting_model.specs.Marks.{Alive}
 use Rattle.waiting_model.specs.Kernel.{Kernel, living_at}
 use Rattle.waiting_model.specs.Effect.{Effect, outcome_of_effect}
-use Rattle.waiting_model.specs.Transition.{Successor, successor, effect, may_make, finish_call, outcome_of, transition, transition_by}
+use Rattle.waiting_model.specs.Transition.{Successor, successor, effect, may_make, finish_call, outcome_of, step_by, transition, transition_by}
 use Rattle.waiting_kernel.specs.declared.done.Done.{Done}
 use Rattle.waiting_kernel.specs.declared.fault.CallFault.{CallFault}
 use Rattle.waiting_kernel.specs.declared.fault.CallFault.TheVariants.{Memory, NotAllowed}
@@ -34,13 +34,13 @@ finished e call mid new pid done outcome h f =
     in ap (λ (k : Kernel). Some (successor k (outcome_of_effect e))) kernel
     ∙ ap (λ (o : Outcome). Some (successor new o)) says
 
-module _ (k : Kernel) (pid : ℕ) (call : Call) (n : ℕ) where
+module _ (k : Kernel) (pid : ℕ) (call : Call) (n : ℕ) (plain : withdrawn_from call ≡ None) where
   -- what the living process that may make the call does
   of-living : (a : Alive) (x : Option Successor) → living_at k pid ≡ Some a → may_make a call ≡ true
       → outcome_of pid call (effect k (waiter pid call) a n) ≡ x
-      → transition k pid (Plain call) n ≡ x
+      → transition k pid call n ≡ x
   of-living a x lives may is =
-      ap (transition_by k pid (Plain call) n) lives
+      ap (transition_by k pid call n) lives ∙ ap (step_by k pid call n a) plain
       ∙ ap (λ (b : Bool). if b then outcome_of pid call (effect k (waiter pid call) a n) else None) may ∙ is
 
   -- the call is carried out
@@ -48,7 +48,7 @@ module _ (k : Kernel) (pid : ℕ) (call : Call) (n : ℕ) where
       → may_make a call ≡ true
       → Answers (effect k (waiter pid call) a n) call (Ok done) k mid
       → FinishesWith mid pid done new outcome
-      → transition k pid (Plain call) n ≡ Some (successor new outcome)
+      → transition k pid call n ≡ Some (successor new outcome)
   made mid new a done outcome lives may answer f =
       of-living a (Some (successor new outcome)) lives may (at (effect k (waiter pid call) a n) refl answer)
     where
@@ -60,17 +60,17 @@ module _ (k : Kernel) (pid : ℕ) (call : Call) (n : ℕ) where
   -- there is no such transition
   pub not-made : (a : Alive) (mid : Kernel) → living_at k pid ≡ Some a → may_make a call ≡ true
       → Answers (effect k (waiter pid call) a n) call (Err NotAllowed) k mid
-      → transition k pid (Plain call) n ≡ None
+      → transition k pid call n ≡ None
   not-made a mid lives may answer = of-living a None lives may (ap (outcome_of pid call) answer.0)
 
   -- or only memory was wanting
   pub not-there : (a : Alive) (mid : Kernel) → living_at k pid ≡ Some a → may_make a call ≡ true
       → Answers (effect k (waiter pid call) a n) call (Err Memory) k mid
-      → is_some (transition k pid (Plain call) n) ≡ true
+      → is_some (transition k pid call n) ≡ true
   not-there a mid lives may answer = at (effect k (waiter pid call) a n) refl answer.0
     where
       at : (o : Option Effect) → effect k (waiter pid call) a n ≡ o → IsSome o
-          → is_some (transition k pid (Plain call) n) ≡ true
+          → is_some (transition k pid call n) ≡ true
       at None is h = absurd (cc)
       at (Some e) is h =
           ap is_some (of-living a (outcome_of pid call (Some e)) lives may (ap (outcome_of pid call) is))
@@ -78,66 +78,66 @@ module _ (k : Kernel) (pid : ℕ) (call : Call) (n : ℕ) where
 abbrev pub err : CallFault → Result Outcome CallFault
 err fault = Err fault
 
-module _ (k : Kernel) (pid : ℕ) (call : Call) (n : ℕ) where
+module _ (k : Kernel) (pid : ℕ) (call : Call) (n : ℕ) (plain : withdrawn_from call ≡ None) where
   -- a call that may be made is made
   pub made-whole : (mid new : Kernel) (done : Done) (outcome : Outcome)
       → option_map_or (λ a. may_make a call) (living_at k pid) false ≡ true
       → IfSome (living_at k pid) (λ a. Answers (effect k (waiter pid call) a n) call (Ok done) k mid)
       → FinishesWith mid pid done new outcome
-      → transition k pid (Plain call) n ≡ Some (successor new outcome)
+      → transition k pid call n ≡ Some (successor new outcome)
   made-whole mid new done outcome allowed answer f = at (living_at k pid) refl allowed answer
     where
       at : (o : Option Alive) → living_at k pid ≡ o → option_map_or (λ a. may_make a call) o false ≡ true
           → IfSome o (λ a. Answers (effect k (waiter pid call) a n) call (Ok done) k mid)
-          → transition k pid (Plain call) n ≡ Some (successor new outcome)
+          → transition k pid call n ≡ Some (successor new outcome)
       at None is y h = absurd (cc)
-      at (Some a) is y h = made k pid call n mid new a done outcome is y h f
+      at (Some a) is y h = made k pid call n plain mid new a done outcome is y h f
 
   -- one that has no effect isn't
   pub not-made-whole : (mid : Kernel) → option_map_or (λ a. may_make a call) (living_at k pid) false ≡ true
       → IfSome (living_at k pid) (λ a. Answers (effect k (waiter pid call) a n) call (Err NotAllowed) k mid)
-      → (transition k pid (Plain call) n ≡ None) × (mid ≡ k)
+      → (transition k pid call n ≡ None) × (mid ≡ k)
   not-made-whole mid allowed answer = at (living_at k pid) refl allowed answer
     where
       at : (o : Option Alive) → living_at k pid ≡ o → option_map_or (λ a. may_make a call) o false ≡ true
           → IfSome o (λ a. Answers (effect k (waiter pid call) a n) call (Err NotAllowed) k mid)
-          → (transition k pid (Plain call) n ≡ None) × (mid ≡ k)
+          → (transition k pid call n ≡ None) × (mid ≡ k)
       at None is y h = absurd (cc)
-      at (Some a) is y h = (not-made k pid call n a mid is y h, h.1)
+      at (Some a) is y h = (not-made k pid call n plain a mid is y h, h.1)
 
   -- and one for which memory was wanting could have been
   pub could-be-made : (mid : Kernel) → option_map_or (λ a. may_make a call) (living_at k pid) false ≡ true
       → IfSome (living_at k pid) (λ a. Answers (effect k (waiter pid call) a n) call (Err Memory) k mid)
-      → (transition k pid (Plain call) n ≡ None → ⊥) × (mid ≡ k)
+      → (transition k pid call n ≡ None → ⊥) × (mid ≡ k)
   could-be-made mid allowed answer = at (living_at k pid) refl allowed answer
     where
       at : (o : Option Alive) → living_at k pid ≡ o → option_map_or (λ a. may_make a call) o false ≡ true
           → IfSome o (λ a. Answers (effect k (waiter pid call) a n) call (Err Memory) k mid)
-          → (transition k pid (Plain call) n ≡ None → ⊥) × (mid ≡ k)
+          → (transition k pid call n ≡ None → ⊥) × (mid ≡ k)
       at None is y h = absurd (cc)
       at (Some a) is y h = (
-        (λ none. let some : is_some (transition k pid (Plain call) n) ≡ true = not-there k pid call n a mid is y h
+        (λ none. let some : is_some (transition k pid call n) ≡ true = not-there k pid call n plain a mid is y h
             in let no : false ≡ true = rw none at some in absurd (cc)),
         h.1,
       )
 
   -- a call that may not be made has no transition
   pub may-not-be-made : option_map_or (λ a. may_make a call) (living_at k pid) false ≡ false
-      → transition k pid (Plain call) n ≡ None
+      → transition k pid call n ≡ None
   may-not-be-made refused = at (living_at k pid) refl refused
     where
       at : (o : Option Alive) → living_at k pid ≡ o → option_map_or (λ a. may_make a call) o false ≡ false
-          → transition k pid (Plain call) n ≡ None
-      at None is m = ap (transition_by k pid (Plain call) n) is
+          → transition k pid call n ≡ None
+      at None is m = ap (transition_by k pid call n) is
       at (Some a) is m =
-          ap (transition_by k pid (Plain call) n) is
+          ap (transition_by k pid call n) is ∙ ap (step_by k pid call n a) plain
           ∙ ap (λ (b : Bool). if b then outcome_of pid call (effect k (waiter pid call) a n) else None) m
 
   -- what a fault says
   pub fault-is : (mid : Kernel) (fault : CallFault)
       → option_map_or (λ a. may_make a call) (living_at k pid) false ≡ true
       → IfSome (living_at k pid) (λ a. Answers (effect k (waiter pid call) a n) call (Err fault) k mid)
-      → ((err fault ≡ err NotAllowed) ↔ (transition k pid (Plain call) n ≡ None)) × (mid ≡ k)
+      → ((err fault ≡ err NotAllowed) ↔ (transition k pid call n ≡ None)) × (mid ≡ k)
   fault-is mid NotAllowed allowed answer =
       let none = not-made-whole mid allowed answer in (((λ _. none.0), (λ _. refl)), none.1)
   fault-is mid Memory allowed answer =

@@ -2,7 +2,7 @@
 ghost use Rattle.std.specs.Prelude.{◌≡◌, ◌↔◌, false, IfOk, OnErr, IsErrOf, IsSome, IfSome, Some, None};
 ghost use Rattle.std.specs.Option.{option_map_or};
 ghost use Rattle.number_maps.specs.Maps.{get};
-ghost use Rattle.waiting_model.specs.declared.entries.AnyCall.TheVariants.{Plain, Withdraw};
+ghost use Rattle.waiting_model.specs.Calls.{withdrawn_from};
 ghost use Rattle.waiting_model.specs.Kernel.{opening, living_at};
 ghost use Rattle.waiting_model.specs.Waiters.{waiter};
 ghost use Rattle.waiting_model.specs.Transition.{effect, finish_call, successor, transition, may_make};
@@ -25,7 +25,7 @@ use pico_base::{Call, Ending, Memory, Outcome, Pid, Reply, Sequence};
 use std::alloc::Global;
 use std::collections::BTreeMap;
 use std::marker::Model;
-use waiting_model::AnyCall;
+use withdrawals::withdrawn_from;
 
 /// The kernel of one POSIX system in which callers wait.
 #[derive(Drop)]
@@ -85,15 +85,15 @@ impl Kernel {
     /// until another's call wakes it. A call that is refused by an error replies it, and the kernel
     /// stays as it was but for the caller's marks. After `Memory` and `NotAllowed` the kernel is
     /// unchanged. `NotAllowed` comes exactly where the kernel has no transition.
-    pub fn call(&mut self, pid: Pid, call: &AnyCall, chosen: u32) -> Result<Outcome, CallFault>
+    pub fn call(&mut self, pid: Pid, call: &Call, chosen: u32) -> Result<Outcome, CallFault>
         ensures ok { IfOk result
             (λ outcome. transition self.old pid call.now chosen ≡ Some (successor self.new outcome)) }
         ensures not_allowed { IsErrOf result CallFault.NotAllowed ↔ (transition self.old pid call.now chosen ≡ None) }
         ensures err { OnErr result (self.new ≡ self.old) }
     {
-        match call {
-            AnyCall::Plain { call } => self.make(pid, call, chosen),
-            AnyCall::Withdraw { name } => self.withdraw(pid, name),
+        match withdrawn_from(call) {
+            Some(name) => self.withdraw(pid, &name),
+            None => self.make(pid, call, chosen),
         }
     }
 
@@ -104,12 +104,13 @@ impl Kernel {
         of_cell(self.processes.cell(pid))
     }
 
-    /// Carries out a call of a script.
+    /// Carries out a call that is no withdrawal.
     fn make(&mut self, pid: Pid, call: &Call, chosen: u32) -> Result<Outcome, CallFault>
+        requires { withdrawn_from call.now ≡ None }
         ensures ok { IfOk result
-            (λ outcome. transition self.old pid (Plain call.now) chosen ≡ Some (successor self.new outcome)) }
+            (λ outcome. transition self.old pid call.now chosen ≡ Some (successor self.new outcome)) }
         ensures not_allowed { IsErrOf result CallFault.NotAllowed
-            ↔ (transition self.old pid (Plain call.now) chosen ≡ None) }
+            ↔ (transition self.old pid call.now chosen ≡ None) }
         ensures err { OnErr result (self.new ≡ self.old) }
     {
         if !self.may_make(pid, call) {
@@ -199,6 +200,7 @@ impl Kernel {
             Call::SemGetAll { id } => self.on_set(pid, *id, call),
             Call::SemSetAll { id, .. } => self.on_set(pid, *id, call),
             Call::SemRmid { id } => self.remove_set(*id),
+            Call::Withdraw { .. } => Err(CallFault::NotAllowed),
         }
     }
 }

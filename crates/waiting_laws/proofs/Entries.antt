@@ -33,9 +33,6 @@ use Rattle.kernel_model.specs.Signals.{Signals, act_on, raise, with_mask}
 use Rattle.kernel_model.specs.Transition as plain
 use Rattle.waiting_model.specs.declared.callers.Waiting.{Waiting}
 use Rattle.waiting_model.specs.declared.callers.Wake.{Wake}
-use Rattle.waiting_model.specs.declared.entries.AnyCall.{AnyCall}
-use Rattle.waiting_model.specs.declared.entries.AnyCall.TheVariants.{Plain, Withdraw}
-use Rattle.waiting_model.specs.declared.entries.Entry.{Entry}
 use Rattle.waiting_model.specs.Calls.{waits_at, is_same_name}
 use Rattle.waiting_model.specs.Waiters.{Awaited, Carried, unawaited, waiter, wake, wakes_at_removal, without_waiter}
 use Rattle.waiting_model.specs.Queue.{try_queue, carry_out_on_queue}
@@ -606,6 +603,7 @@ module _ (k : Kernel) (fine : Fine k) (pid : ℕ) (a : Alive) (acts : Acts k pid
       set-done (calls.SemGetAll id) id (get k.sets id) refl (λ s h. not-none _ h)
   call-fine (calls.SemSetAll id values) n =
       set-done (calls.SemSetAll id values) id (get k.sets id) refl (λ s h. not-none _ h)
+  call-fine (calls.Withdraw name) n = tt
 
 -- Withdrawals.
 
@@ -843,10 +841,15 @@ not-parked : (o : Option Call) → not (is_some o) ≡ true → o ≡ None
 not-parked None h = refl
 not-parked (Some call) h = absurd (false≢true h)
 
-leads-living : (k : Kernel) → Fine k → (pid : ℕ) (call : AnyCall) (n : ℕ) (o : Option Alive) → living_at k pid ≡ o
+leads-living : (k : Kernel) → Fine k → (pid : ℕ) (call : Call) (n : ℕ) (o : Option Alive) → living_at k pid ≡ o
     → LeadsFine (transition_by k pid call n o)
 leads-living k fine pid call n None lives = tt
-leads-living k fine pid (Plain call) n (Some a) lives =
+leads-living k fine pid (calls.Withdraw name) n (Some a) lives =
+    leads-if (may_withdraw pid a name) (Some (withdraw k pid name))
+    (λ may.
+    withdrawal-fine k fine pid a lives name
+    (and_parts a.marks.struck (is_parked_at pid name a.marks.parked) may).1)
+leads-living k fine pid call n (Some a) lives =
     leads-if (may_make a call) (outcome_of pid call (effect k (waiter pid call) a n))
     (λ may.
     leads-by pid call (effect k (waiter pid call) a n)
@@ -857,14 +860,9 @@ leads-living k fine pid (Plain call) n (Some a) lives =
           not-parked a.marks.parked
           (and_parts (not (is_some a.marks.parked)) (plain.may_make (plain_alive a) call) may).0;
     }) call n))
-leads-living k fine pid (Withdraw name) n (Some a) lives =
-    leads-if (may_withdraw pid a name) (Some (withdraw k pid name))
-    (λ may.
-    withdrawal-fine k fine pid a lives name
-    (and_parts a.marks.struck (is_parked_at pid name a.marks.parked) may).1)
 
 -- each entry keeps it
-pub entry-fine : (k : Kernel) → Fine k → (pid : ℕ) (call : AnyCall) (n : ℕ) (s : Successor)
+pub entry-fine : (k : Kernel) → Fine k → (pid : ℕ) (call : Call) (n : ℕ) (s : Successor)
     → transition k pid call n ≡ Some s → Fine s.kernel
 entry-fine k fine pid call n s is = subst LeadsFine is (leads-living k fine pid call n (living_at k pid) refl)
 

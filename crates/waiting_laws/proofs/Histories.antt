@@ -1,10 +1,10 @@
 -- Histories in which nobody waits.
-use Rattle.std.proofs.Common.{◌≡◌, ◌∙◌, ℕ, Bool, true, false, List, [], ◌∷◌, map, Option, Some, None, refl, ap, sym, subst, inl, inr}
+use Rattle.std.proofs.Common.{◌≡◌, ◌∙◌, ℕ, Bool, true, false, List, [], ◌∷◌, Option, Some, None, refl, ap, sym, subst, inl, inr}
 use Rattle.std.specs.Prelude.{if◌then◌else◌}
 use Rattle.std.proofs.lemmas.Bool.{false≢true, cases_Bool}
 use Rattle.pico_base.specs.declared.call.Call.{Call}
 use Rattle.pico_base.specs.declared.call.Call.TheVariants as calls
-use Rattle.pico_base.specs.declared.reply.Entry as plain_entry
+use Rattle.pico_base.specs.declared.reply.Entry.{Entry}
 use Rattle.pico_base.specs.declared.reply.Outcome.{Outcome}
 use Rattle.number_maps.proofs.Rising.{rising-nothing}
 use Rattle.number_maps.specs.Maps.{get}
@@ -18,22 +18,23 @@ use Rattle.kernel_model.specs.Kernel as plain_kernels
 use Rattle.kernel_model.specs.Row as plain_rows
 use Rattle.kernel_model.specs.Waiting.{is_waiting}
 use Rattle.kernel_model.specs.Transition as plain
-use Rattle.waiting_model.specs.declared.entries.AnyCall.TheVariants.{Plain}
+use Rattle.waiting_model.specs.Calls.{may_park}
 use Rattle.waiting_model.specs.Waiters.{Awaited}
 use Rattle.waiting_model.specs.Kernel.{Kernel, opening}
 use Rattle.waiting_model.specs.Transition.{Successor, successor, transition}
 use Rattle.waiting_model.specs.History.{Replays}
 use Rattle.waiting_laws.specs.Plain.{plain_kernel, NobodyWaits}
-use Rattle.waiting_laws.specs.Before.{LeadsAlike, LeadAlike, as_entry, NeverMayWait, HistoriesAreAsBefore}
+use Rattle.waiting_laws.specs.Before.{LeadsAlike, LeadAlike, NeverMayPark, HistoriesAreAsBefore}
 use Rattle.waiting_laws.proofs.Transitions.{calls-as-before}
 
--- A call that may have to wait had no effect.
+-- A call that may have to wait had no effect, nor had a withdrawal.
 
 pub no-effect : (k : plain_kernels.Kernel) (pid : ℕ) (a : plain_rows.Alive) (call : Call) (n : ℕ)
     → is_waiting call ≡ true → plain.effect k pid a call n ≡ None
 no-effect k pid a (calls.MsgSnd id class text false) n h = refl
 no-effect k pid a (calls.MsgRcv id class size noerror false) n h = refl
 no-effect k pid a (calls.WaitPid child false) n h = refl
+no-effect k pid a (calls.Withdraw name) n h = refl
 no-effect k pid a (calls.SemOp id steps) n h =
     ap
     (λ (b : Bool).
@@ -59,7 +60,7 @@ no-result k pid call n h (Some a) =
 nothing-is-something : {A B : Type 0} (a : A) (o : Option A) → o ≡ None → o ≡ Some a → B
 nothing-is-something a o h g = cc
 
--- a call that had a result is in no form that may wait
+-- a call that had a result is in no form that may wait, and ends no wait
 pub never-waits : (k : plain_kernels.Kernel) (pid : ℕ) (call : Call) (n : ℕ) (s : plain.Successor)
     → plain.transition k pid call n ≡ Some s → is_waiting call ≡ false
 never-waits k pid call n s h =
@@ -69,6 +70,11 @@ never-waits k pid call n s h =
           (no-result k pid call n may (plain_kernels.living_at k pid)) h
       | inr not_ ↦ not_
     ]
+
+-- so it can't park
+parks-not : (call : Call) → is_waiting call ≡ false → may_park call ≡ false
+parks-not (calls.Withdraw name) h = refl
+parks-not call h = h
 
 -- Where one has a result, the other has one too.
 
@@ -100,19 +106,20 @@ led-from (Some r) (Some q) s h g =
     let same : r ≡ s = cc
     in record { next = q; is = refl; alike = subst (λ (t : Successor). LeadsAlike t q) same h }
 
-record Leads (k : Kernel) (h : List plain_entry.Entry) : Type 0 where
+record Leads (k : Kernel) (h : List Entry) : Type 0 where
   last : Kernel
-  replays : Replays k (map as_entry h) last
+  replays : Replays k h last
 
-legal-still : (h : List plain_entry.Entry) (last : plain_kernels.Kernel) (k : Kernel) → NobodyWaits k
+legal-still : (h : List Entry) (last : plain_kernels.Kernel) (k : Kernel) → NobodyWaits k
     → plain_history.Replays (plain_kernel k) h last → Leads k h
 legal-still [] last k quiet r = record { last = k; replays = refl }
 legal-still (e ∷ es) last k quiet r =
     let n = number_in e.outcome.own
     in let p = plain.successor r.next e.outcome
-    in let never : is_waiting e.call ≡ false = never-waits (plain_kernel k) e.pid e.call n p r.step
-    in let led : LedTo (transition k e.pid (Plain e.call) n) p =
-    led-to (transition k e.pid (Plain e.call) n) (plain.transition (plain_kernel k) e.pid e.call n) p
+    in let never : may_park e.call ≡ false =
+    parks-not e.call (never-waits (plain_kernel k) e.pid e.call n p r.step)
+    in let led : LedTo (transition k e.pid e.call n) p =
+    led-to (transition k e.pid e.call n) (plain.transition (plain_kernel k) e.pid e.call n) p
     (calls-as-before k e.pid e.call n quiet never) r.step
     in let on : plain_history.Replays (plain_kernel led.next.kernel) es last =
     subst (λ (q : plain_kernels.Kernel). plain_history.Replays q es last) (sym led.alike.kernel) r.rest
@@ -129,18 +136,18 @@ legal-still (e ∷ es) last k quiet r =
       };
     }
 
-record Led (k : plain_kernels.Kernel) (h : List plain_entry.Entry) : Type 0 where
+record Led (k : plain_kernels.Kernel) (h : List Entry) : Type 0 where
   last : plain_kernels.Kernel
   replays : plain_history.Replays k h last
 
-legal-before : (h : List plain_entry.Entry) (last : Kernel) (k : Kernel) → NobodyWaits k → NeverMayWait h
-    → Replays k (map as_entry h) last → Led (plain_kernel k) h
+legal-before : (h : List Entry) (last : Kernel) (k : Kernel) → NobodyWaits k → NeverMayPark h
+    → Replays k h last → Led (plain_kernel k) h
 legal-before [] last k quiet never r = record { last = plain_kernel k; replays = refl }
 legal-before (e ∷ es) last k quiet never r =
     let n = number_in e.outcome.own
     in let s = successor r.next e.outcome
     in let led : LedFrom (plain.transition (plain_kernel k) e.pid e.call n) s =
-    led-from (transition k e.pid (Plain e.call) n) (plain.transition (plain_kernel k) e.pid e.call n) s
+    led-from (transition k e.pid e.call n) (plain.transition (plain_kernel k) e.pid e.call n) s
     (calls-as-before k e.pid e.call n quiet never.0) r.step
     in let rest : Led (plain_kernel r.next) es = legal-before es last r.next led.alike.quiet never.1 r.rest
     in let on : plain_history.Replays led.next.kernel es rest.last =

@@ -25,8 +25,6 @@ use Rattle.kernel_model.specs.SemaphoreSet.{SemaphoreSet, new_set}
 use Rattle.kernel_model.specs.Signals.{Signals, act_on, raise, with_mask}
 use Rattle.waiting_model.specs.declared.callers.Waiting.{Waiting}
 use Rattle.waiting_model.specs.declared.callers.Wake.{Wake}
-use Rattle.waiting_model.specs.declared.entries.AnyCall.{AnyCall}
-use Rattle.waiting_model.specs.declared.entries.AnyCall.TheVariants.{Plain, Withdraw}
 use Rattle.waiting_model.specs.Waiters.{Awaited, Carried, Try, carry_out, waiter, wakes_at_removal}
 use Rattle.waiting_model.specs.Queue.{carry_out_on_queue, try_queue}
 use Rattle.waiting_model.specs.SemaphoreSet.{carry_out_on_set, carry_out_on_set_by, try_set}
@@ -421,6 +419,7 @@ module _ (k : Kernel) (fine : Fine k) (pid : ℕ) (a : Alive) (acts : Acts k pid
   exact-call (calls.SemSetVal id num value) n = exact-on-set (calls.SemSetVal id num value) id (get k.sets id)
   exact-call (calls.SemGetAll id) n = exact-on-set (calls.SemGetAll id) id (get k.sets id)
   exact-call (calls.SemSetAll id values) n = exact-on-set (calls.SemSetAll id values) id (get k.sets id)
+  exact-call (calls.Withdraw name) n = tt
 
 -- Entries.
 
@@ -452,7 +451,7 @@ finish-parked k pid call lives q =
 moves-by : (k : Kernel) (pid : ℕ) (a : Alive) → living_at k pid ≡ Some a → (call : Call) (e : Effect) → ExactEffect k e
     → (own : Option Reply) → e.own ≡ own
     → (q : ℕ) → (let j : Kernel = finish_call e.kernel pid call own in mark_in j.processes q)
-    ≡ (if nat_eq pid q then own_mark (Plain call) own
+    ≡ (if nat_eq pid q then own_mark call own
     else if woken_in q (map woken_pair e.wakes) then None else mark_in k.processes q)
 moves-by k pid a lives call e x None is q =
     finish-parked e.kernel pid call
@@ -465,11 +464,11 @@ moves-by k pid a lives call e x (Some reply) is q =
     (x.marks q ∙ ap (λ (b : Bool). (if b then None else mark_in k.processes q)) (sym (pairs-woken e.wakes q)))
 
 of-makes : (k : Kernel) → Fine k → (pid : ℕ) (call : Call) (n : ℕ) (s : Successor) → Makes k pid call n s
-    → MovesMarks k pid (Plain call) s
+    → MovesMarks k pid call s
 of-makes k fine pid call n s m =
     let acts : Acts k pid m.alive = acts-by k pid m.alive call m.lives m.may
     in let exact : ExactEffect k m.step = subst (ExactIf k) m.does (exact-call k fine pid m.alive acts call n)
-    in subst (λ (t : Successor). MovesMarks k pid (Plain call) t) m.is
+    in subst (λ (t : Successor). MovesMarks k pid call t) m.is
     (moves-by k pid m.alive m.lives call m.step exact m.step.own refl)
 
 left-processes : (k : Kernel) (pid : ℕ) (name : Name) → (unparked k pid name).processes ≡ k.processes
@@ -486,18 +485,18 @@ left-processes k pid (Sem id) = of_set (get k.sets id)
     of_set (Some s) = refl
 
 of-leaves : (k : Kernel) (pid : ℕ) (name : Name) (s : Successor) → Leaves k pid name s
-    → MovesMarks k pid (Withdraw name) s
+    → MovesMarks k pid (calls.Withdraw name) s
 of-leaves k pid name s l =
-    subst (λ (t : Successor). MovesMarks k pid (Withdraw name) t) l.is
+    subst (λ (t : Successor). MovesMarks k pid (calls.Withdraw name) t) l.is
     (λ q.
     ap (λ (ps : Numbered Process). mark_in (change_living ps pid after_reply) q) (left-processes k pid name)
     ∙ mark-replied k.processes pid q)
 
 -- each entry
-pub entry-moves : (k : Kernel) → Fine k → (pid : ℕ) (call : AnyCall) (n : ℕ) (s : Successor)
+pub entry-moves : (k : Kernel) → Fine k → (pid : ℕ) (call : Call) (n : ℕ) (s : Successor)
     → transition k pid call n ≡ Some s → MovesMarks k pid call s
-entry-moves k fine pid (Plain call) n s is = of-makes k fine pid call n s (makes k pid call n s is)
-entry-moves k fine pid (Withdraw name) n s is = of-leaves k pid name s (leaves k pid name n s is)
+entry-moves k fine pid (calls.Withdraw name) n s is = of-leaves k pid name s (leaves k pid name n s is)
+entry-moves k fine pid call n s is = of-makes k fine pid call n s (makes k pid call n s refl is)
 
 -- behind each legal history
 pub reachable-moves : ReachableEntriesMoveMarks

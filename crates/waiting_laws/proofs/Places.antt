@@ -5,6 +5,7 @@ use Rattle.std.specs.Option.{option_and_then}
 use Rattle.std.proofs.lemmas.Bool.{true≢false, false≢true, cases_eq}
 use Rattle.pico_base.specs.declared.call.Call.{Call}
 use Rattle.pico_base.specs.declared.call.Call.TheVariants as calls
+use Rattle.pico_base.specs.declared.reply.Entry.{Entry}
 use Rattle.pico_base.specs.declared.reply.Reply.{Reply}
 use Rattle.pico_base.specs.declared.reply.Reply.TheVariants as replies
 use Rattle.pico_base.specs.declared.script.Script.{Script}
@@ -14,9 +15,6 @@ use Rattle.number_maps.proofs.Order.{eq-same, eq-other, same-from-nat_eq}
 use Rattle.kernel_model.specs.Effect.{is_fresh}
 use Rattle.kernel_model.specs.Fitting.{Place, block_at, block_place, child_vars, due}
 use Rattle.kernel_model.specs.History.{number_in}
-use Rattle.waiting_model.specs.declared.entries.AnyCall.{AnyCall}
-use Rattle.waiting_model.specs.declared.entries.AnyCall.TheVariants.{Plain, Withdraw}
-use Rattle.waiting_model.specs.declared.entries.Entry.{Entry}
 use Rattle.waiting_model.specs.Kernel.{Kernel, Process, alive_in, opening}
 use Rattle.waiting_model.specs.Effect.{Effect, outcome_of_effect}
 use Rattle.waiting_model.specs.ProcessCalls.{fork_effect}
@@ -24,7 +22,7 @@ use Rattle.waiting_model.specs.Transition.{Successor, effect, finish_call, succe
 use Rattle.waiting_model.specs.Waiters.{waiter}
 use Rattle.waiting_model.specs.Marks.{Alive}
 use Rattle.waiting_model.specs.History.{Replays}
-use Rattle.waiting_model.specs.Fitting.{FitsFrom, Places, Progress, after_entry, answered, after_fork, after_fork_of, after_own, after_wake, after_withdrawal, after_woken, at_place, opening_places, places_after, woken_at}
+use Rattle.waiting_model.specs.Fitting.{FitsFrom, Places, Progress, after_entry, answered, after_fork, after_own, after_wake, after_withdrawal, after_woken, at_place, opening_places, places_after, woken_at}
 use Rattle.waiting_laws.specs.Parked.{mark_of, mark_in}
 use Rattle.waiting_laws.specs.Woken.{WakesRightly, woken_in}
 use Rattle.waiting_laws.specs.MarkMoves.{MovesMarks, own_mark}
@@ -99,24 +97,25 @@ agree-woken (w ∷ ws) places marks agree =
 -- The caller.
 
 -- a withdrawal has its reply
-abbrev HasReplyOrCall : AnyCall → Option Reply → Type 0
-HasReplyOrCall (Plain call) own = Unit {0}
-HasReplyOrCall (Withdraw name) None = ⊥
-HasReplyOrCall (Withdraw name) (Some reply) = Unit {0}
+abbrev HasReplyOrCall : Call → Option Reply → Type 0
+HasReplyOrCall (calls.Withdraw name) None = ⊥
+HasReplyOrCall (calls.Withdraw name) (Some reply) = Unit {0}
+HasReplyOrCall call own = Unit {0}
 
-has-reply : (k : Kernel) (pid : ℕ) (call : AnyCall) (n : ℕ) (s : Successor) → transition k pid call n ≡ Some s
+has-reply : (k : Kernel) (pid : ℕ) (call : Call) (n : ℕ) (s : Successor) → transition k pid call n ≡ Some s
     → HasReplyOrCall call s.outcome.own
-has-reply k pid (Plain call) n s is = tt
-has-reply k pid (Withdraw name) n s is =
+has-reply k pid (calls.Withdraw name) n s is =
     let l : Leaves k pid name s = leaves k pid name n s is
-    in subst (λ (o : Option Reply). HasReplyOrCall (Withdraw name) o) (ap (λ (t : Successor). t.outcome.own) l.is) tt
+    in subst (λ (o : Option Reply). HasReplyOrCall (calls.Withdraw name) o)
+    (ap (λ (t : Successor). t.outcome.own) l.is) tt
+has-reply k pid call n s is = tt
 
-own-parked : (call : AnyCall) (own : Option Reply) (p : Progress) → HasReplyOrCall call own
+own-parked : (call : Call) (own : Option Reply) (p : Progress) → HasReplyOrCall call own
     → (after_entry call own p).parked ≡ is_some (own_mark call own)
-own-parked (Plain call) None p h = refl
-own-parked (Plain call) (Some reply) p h = refl
-own-parked (Withdraw name) (Some reply) p h = waits-no-more reply p p.parked refl
-own-parked (Withdraw name) None p h = absurd h
+own-parked (calls.Withdraw name) (Some reply) p h = waits-no-more reply p p.parked refl
+own-parked (calls.Withdraw name) None p h = absurd h
+own-parked call None p h = refl
+own-parked call (Some reply) p h = refl
 
 -- A fork: its number was unused, so nobody had it.
 
@@ -127,9 +126,9 @@ forked k fine pid a n false e f fresh is = not-some e is
 
 -- the number that a fork's reply gives, is the one that it was given
 fork-number : (k : Kernel) (pid : ℕ) (block n : ℕ) (s : Successor) (child : ℕ) → Fine k
-    → transition k pid (Plain (calls.Fork block)) n ≡ Some s → n ≡ child → mark_in k.processes child ≡ None
+    → transition k pid (calls.Fork block) n ≡ Some s → n ≡ child → mark_in k.processes child ≡ None
 fork-number k pid block n s child fine is same =
-    let m : Makes k pid (calls.Fork block) n s = makes k pid (calls.Fork block) n s is
+    let m : Makes k pid (calls.Fork block) n s = makes k pid (calls.Fork block) n s refl is
     in let none : get k.processes n ≡ None =
     forked k fine pid m.alive n (is_fresh k.used_processes n) m.step _ refl m.does
     in subst (λ (i : ℕ). mark_in k.processes i ≡ None) same
@@ -138,20 +137,11 @@ fork-number k pid block n s child fine is same =
 fork-agree : (script : Script) (places : Places) (parent : Place) (call : Call) (own : Option Reply)
     → (marks : ℕ → Option Call) → Agree places marks
     → ((block child : ℕ) → call ≡ calls.Fork block → own ≡ Some (replies.Num child) → marks child ≡ None)
-    → Agree (after_fork_of script places parent call own) marks
+    → Agree (after_fork script places parent call own) marks
 fork-agree script places parent (calls.Fork block) (Some (replies.Num child)) marks agree none =
     agree-put places child (at_place (block_place (block_at script block) (child_vars parent))) marks marks agree
     (sym (ap is_some (none block child refl refl))) (λ q ne. refl)
 fork-agree script places parent call own marks agree none = agree
-
-forks-agree : (script : Script) (places : Places) (parent : Place) (call : AnyCall) (own : Option Reply)
-    → (marks : ℕ → Option Call) → Agree places marks
-    → ((block child : ℕ) → call ≡ Plain (calls.Fork block) → own ≡ Some (replies.Num child) → marks child ≡ None)
-    → Agree (after_fork script places parent call own) marks
-forks-agree script places parent (Plain call) own marks agree none =
-    fork-agree script places parent call own marks agree
-    (λ block child is has. none block child (ap (λ (c : Call). (let x : AnyCall = Plain c in x)) is) has)
-forks-agree script places parent (Withdraw name) own marks agree none = agree
 
 -- One entry.
 
@@ -160,21 +150,21 @@ marks_behind k e q = if nat_eq e.pid q then own_mark e.call e.outcome.own else m
 
 no-mark-of-child : (k : Kernel) → Fine k → (e : Entry) (next : Kernel) (block child : ℕ)
     → transition k e.pid e.call (number_in e.outcome.own) ≡ Some (successor next e.outcome)
-    → e.call ≡ Plain (calls.Fork block) → e.outcome.own ≡ Some (replies.Num child) → marks_behind k e child ≡ None
+    → e.call ≡ calls.Fork block → e.outcome.own ≡ Some (replies.Num child) → marks_behind k e child ≡ None
 no-mark-of-child k fine e next block child step is has = by_test (nat_eq e.pid child)
   where
     fresh : mark_in k.processes child ≡ None
     fresh =
         fork-number k e.pid block (number_in e.outcome.own) (successor next e.outcome) child fine
-        (subst (λ (c : AnyCall). transition k e.pid c (number_in e.outcome.own) ≡ Some (successor next e.outcome)) is
+        (subst (λ (c : Call). transition k e.pid c (number_in e.outcome.own) ≡ Some (successor next e.outcome)) is
         step)
         (ap number_in has)
 
     by_test : (b : Bool) → (if b then own_mark e.call e.outcome.own else mark_in k.processes child) ≡ None
     by_test false = fresh
     by_test true =
-        ap (λ (c : AnyCall). own_mark c e.outcome.own) is
-        ∙ ap (λ (o : Option Reply). own_mark (Plain (calls.Fork block)) o) has
+        ap (λ (c : Call). own_mark c e.outcome.own) is
+        ∙ ap (λ (o : Option Reply). own_mark (calls.Fork block) o) has
 
 moved-marks : (k : Kernel) (e : Entry) (next : Kernel) → MovesMarks k e.pid e.call (successor next e.outcome)
     → WakesRightly k e.pid (successor next e.outcome) → (q : ℕ)
@@ -211,7 +201,7 @@ agree-step script k fine e places p next step agree there =
     ap (λ (b : Bool). (if b then own_mark e.call e.outcome.own else mark_in k.processes q))
     (eq-other e.pid q (λ h. ne (sym h))))
     in let forked_too : Agree (after_fork script mid p.place e.call e.outcome.own) marks =
-    forks-agree script mid p.place e.call e.outcome.own marks own
+    fork-agree script mid p.place e.call e.outcome.own marks own
     (λ block child is has. no-mark-of-child k fine e next block child step is has)
     in agree-marks (places_after script places e p)
     (λ q. if woken_in q e.outcome.woken then None else marks q) (λ q. mark_in next.processes q)

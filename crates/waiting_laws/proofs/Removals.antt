@@ -79,7 +79,7 @@ queue-removal k pid id n q s there m =
 
 -- a queue
 pub queue-removals : QueueRemovalsWakeAll
-queue-removals k pid id n q s there is = queue-removal k pid id n q s there (makes k pid (calls.MsgRmid id) n s is)
+queue-removals k pid id n q s there is = queue-removal k pid id n q s there (makes k pid (calls.MsgRmid id) n s refl is)
 
 set-removal : (k : Kernel) (pid id n : ℕ) (set : Awaited SemaphoreSet) (s : Successor) → get k.sets id ≡ Some set
     → Makes k pid (calls.SemRmid id) n s → RemovesSet id set.waiters s
@@ -108,7 +108,7 @@ set-removal k pid id n set s there m =
 
 -- a set
 pub set-removals : SetRemovalsWakeAll
-set-removals k pid id n set s there is = set-removal k pid id n set s there (makes k pid (calls.SemRmid id) n s is)
+set-removals k pid id n set s there is = set-removal k pid id n set s there (makes k pid (calls.SemRmid id) n s refl is)
 
 -- withdrawals
 

@@ -15,9 +15,6 @@ use Rattle.kernel_model.specs.Queue.{Queue, empty_queue}
 use Rattle.kernel_model.specs.Row.{Waited, Found, NotYet, NoChild, wait}
 use Rattle.kernel_model.specs.SemaphoreSet.{SemaphoreSet, new_set}
 use Rattle.kernel_model.specs.Signals.{Signals, act_on}
-use Rattle.waiting_model.specs.declared.entries.AnyCall.{AnyCall}
-use Rattle.waiting_model.specs.declared.entries.AnyCall.TheVariants.{Plain, Withdraw}
-use Rattle.waiting_model.specs.declared.entries.Entry.{Entry}
 use Rattle.waiting_model.specs.declared.callers.Waiting.{Waiting}
 use Rattle.waiting_model.specs.Waiters.{Awaited, waiter, unawaited, without_waiter, IsSettled}
 use Rattle.waiting_model.specs.Queue.{try_queue, carry_out_on_queue}
@@ -212,6 +209,7 @@ settled-effect k h who a (calls.SemGetZcnt id num) n = set-carried k h id who (g
 settled-effect k h who a (calls.SemSetVal id num value) n = set-carried k h id who (get k.sets id) refl
 settled-effect k h who a (calls.SemGetAll id) n = set-carried k h id who (get k.sets id) refl
 settled-effect k h who a (calls.SemSetAll id values) n = set-carried k h id who (get k.sets id) refl
+settled-effect k h who a (calls.Withdraw name) n = tt
 
 settled-allowance : (k : Kernel) → NobodyCouldGoOn k → (pid : ℕ) (o : Option Alive)
     → NobodyCouldGoOn (allowance_after k pid o)
@@ -274,14 +272,14 @@ leads-by : (pid : ℕ) (call : Call) (o : Option Effect) → IfSettled o → Lea
 leads-by pid call None h = tt
 leads-by pid call (Some e) h = settled-finish e.kernel h pid call e.own
 
-leads-living : (k : Kernel) → NobodyCouldGoOn k → (pid : ℕ) (call : AnyCall) (n : ℕ) (o : Option Alive)
+leads-living : (k : Kernel) → NobodyCouldGoOn k → (pid : ℕ) (call : Call) (n : ℕ) (o : Option Alive)
     → LeadsSettled (transition_by k pid call n o)
 leads-living k h pid call n None = tt
-leads-living k h pid (Plain call) n (Some a) =
+leads-living k h pid (calls.Withdraw name) n (Some a) =
+    leads-if (may_withdraw pid a name) (Some (withdraw k pid name)) (settled-withdrawn k h pid name)
+leads-living k h pid call n (Some a) =
     leads-if (may_make a call) (outcome_of pid call (effect k (waiter pid call) a n))
     (leads-by pid call (effect k (waiter pid call) a n) (settled-effect k h (waiter pid call) a call n))
-leads-living k h pid (Withdraw name) n (Some a) =
-    leads-if (may_withdraw pid a name) (Some (withdraw k pid name)) (settled-withdrawn k h pid name)
 
 -- an entry is one of a call or a withdrawal
 pub entries-settle : EntriesSettle

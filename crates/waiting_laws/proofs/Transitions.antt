@@ -7,6 +7,7 @@ use Rattle.std.proofs.lemmas.Bool.{true≢false}
 use Rattle.pico_base.specs.declared.call.Call.{Call}
 use Rattle.pico_base.specs.declared.call.Call.TheVariants as calls
 use Rattle.pico_base.specs.declared.call.SemStep.{SemStep}
+use Rattle.pico_base.specs.declared.numbers.Name.{Name}
 use Rattle.pico_base.specs.declared.reply.Ending.TheVariants as endings
 use Rattle.pico_base.specs.declared.reply.Outcome.{Outcome}
 use Rattle.pico_base.specs.declared.reply.Reply.{Reply}
@@ -24,15 +25,15 @@ use Rattle.kernel_model.specs.Kernel as plain_kernels
 use Rattle.kernel_model.specs.Waiting.{is_waiting, may_wait}
 use Rattle.kernel_model.specs.SetCalls as plain_sets
 use Rattle.kernel_model.specs.Transition as plain
-use Rattle.waiting_model.specs.declared.entries.AnyCall.TheVariants.{Plain}
+use Rattle.waiting_model.specs.Calls.{may_park}
 use Rattle.waiting_model.specs.declared.callers.Wake.{Wake}
 use Rattle.waiting_model.specs.Waiters.{waiter, unawaited, carry_out_by}
 use Rattle.waiting_model.specs.SemaphoreSet.{try_set, is_negative_on, is_zero_on}
-use Rattle.waiting_model.specs.Marks.{Alive, plain_alive, after_reply, spent, with_signals_of}
+use Rattle.waiting_model.specs.Marks.{Alive, plain_alive, after_reply, spent, with_signals_of, is_parked_at}
 use Rattle.waiting_model.specs.Kernel.{Kernel, Process, Living, Ended, Gone, alive_in, living_at, with_alive, where_living, change_living}
 use Rattle.waiting_model.specs.Effect.{Effect, woken_pair, outcome_of_effect}
 use Rattle.waiting_model.specs.SetCalls.{on_set}
-use Rattle.waiting_model.specs.Transition.{Successor, successor, effect, may_make, allowance_after, marks_after, finish_call, outcome_of, transition, transition_by}
+use Rattle.waiting_model.specs.Transition.{Successor, successor, effect, may_make, may_withdraw, allowance_after, marks_after, finish_call, outcome_of, withdraw, step_by, transition, transition_by}
 use Rattle.waiting_laws.specs.Plain.{each, plain_process, plain_kernel, AllValues, IsUnparked, NobodyWaits}
 use Rattle.waiting_laws.specs.Before.{LeadsAlike, LeadAlike, CallsAreAsBefore}
 use Rattle.waiting_laws.proofs.Maps.{get-each, all-get}
@@ -120,6 +121,7 @@ effects-alike k quiet pid a unparked (calls.SemSetAll id values) n h =
     on-set-alike k quiet id (waiter pid (calls.SemSetAll id values)) _
     (λ s there. changes-set k quiet id s there (waiter pid (calls.SemSetAll id values)) (set_all s values))
 effects-alike k quiet pid a unparked (calls.SemRmid id) n h = remove-set-alike k quiet id
+effects-alike k quiet pid a unparked (calls.Withdraw name) n h = absurd (true≢false h)
 
 -- The caller's marks.
 
@@ -274,12 +276,10 @@ lead-if false x y h = tt
 may-alike : (a : Alive) (call : Call) → a.marks.parked ≡ None → may_make a call ≡ plain.may_make (plain_alive a) call
 may-alike a call h = ap (λ (o : Option Call). not (is_some o) && plain.may_make (plain_alive a) call) h
 
-lead-living : (k : Kernel) → NobodyWaits k → (pid : ℕ) (call : Call) (n : ℕ) → is_waiting call ≡ false
-    → (o : Option Alive) → IsUnparkedAlive o
-    → LeadAlike (transition_by k pid (Plain call) n o)
-    (plain.transition_by (plain_kernel k) pid call n (option_map plain_alive o))
-lead-living k quiet pid call n h None g = tt
-lead-living k quiet pid call n h (Some a) g =
+lead-made : (k : Kernel) → NobodyWaits k → (pid : ℕ) (call : Call) (n : ℕ) → is_waiting call ≡ false
+    → (a : Alive) → a.marks.parked ≡ None
+    → LeadAlike (step_by k pid call n a None) (plain.transition_by (plain_kernel k) pid call n (Some (plain_alive a)))
+lead-made k quiet pid call n h a g =
     subst
     (λ (b : Bool).
     LeadAlike (if b then outcome_of pid call (effect k (waiter pid call) a n) else None)
@@ -289,11 +289,34 @@ lead-living k quiet pid call n h (Some a) g =
     (lead-by k pid call (effect k (waiter pid call) a n) (plain.effect (plain_kernel k) pid (plain_alive a) call n)
     (effects-alike k quiet pid a g call n h)))
 
+-- nobody withdraws who doesn't wait
+withdraws-not : (struck : Bool) (pid : ℕ) (name : Name) (o : Option Call) → o ≡ None
+    → (struck && is_parked_at pid name o) ≡ false
+withdraws-not true pid name None h = refl
+withdraws-not false pid name None h = refl
+withdraws-not struck pid name (Some call) h = absurd (cc)
+
+lead-nowhere : (b c : Bool) (s : Successor) → b ≡ false
+    → LeadAlike (if b then Some s else None) (if c then None else None)
+lead-nowhere true c s h = absurd (true≢false h)
+lead-nowhere false true s h = tt
+lead-nowhere false false s h = tt
+
+lead-living : (k : Kernel) → NobodyWaits k → (pid : ℕ) (call : Call) (n : ℕ) → may_park call ≡ false
+    → (o : Option Alive) → IsUnparkedAlive o
+    → LeadAlike (transition_by k pid call n o)
+    (plain.transition_by (plain_kernel k) pid call n (option_map plain_alive o))
+lead-living k quiet pid call n h None g = tt
+lead-living k quiet pid (calls.Withdraw name) n h (Some a) g =
+    lead-nowhere (may_withdraw pid a name) (plain.may_make (plain_alive a) (calls.Withdraw name)) (withdraw k pid name)
+    (withdraws-not a.marks.struck pid name a.marks.parked g)
+lead-living k quiet pid call n h (Some a) g = lead-made k quiet pid call n h a g
+
 -- who calls lives and is free to act in both kernels or in none
 pub calls-as-before : CallsAreAsBefore
 calls-as-before k pid call n quiet h =
     subst
     (λ (o : Option plain_rows.Alive).
-    LeadAlike (transition k pid (Plain call) n) (plain.transition_by (plain_kernel k) pid call n o))
+    LeadAlike (transition k pid call n) (plain.transition_by (plain_kernel k) pid call n o))
     (sym (living-each k pid))
     (lead-living k quiet pid call n h (living_at k pid) (unparked-living k quiet pid))

@@ -27,8 +27,6 @@ use Rattle.kernel_model.specs.Signals.{Signals, act_on}
 use Rattle.kernel_model.specs.Transition as plain
 use Rattle.waiting_model.specs.declared.callers.Waiting.{Waiting}
 use Rattle.waiting_model.specs.declared.callers.Wake.{Wake}
-use Rattle.waiting_model.specs.declared.entries.AnyCall.{AnyCall}
-use Rattle.waiting_model.specs.declared.entries.AnyCall.TheVariants.{Plain, Withdraw}
 use Rattle.waiting_model.specs.Waiters.{Awaited, Carried, waiter, wakes_at_removal}
 use Rattle.waiting_model.specs.Queue.{carry_out_on_queue, try_queue}
 use Rattle.waiting_model.specs.SemaphoreSet.{carry_out_on_set}
@@ -361,6 +359,7 @@ module _ (k : Kernel) (fine : Fine k) (pid : ℕ) (a : Alive) (acts : Acts k pid
   call-well (calls.SemGetAll id) n = set-well k fine pid a acts (calls.SemGetAll id) id (get k.sets id) refl
   call-well (calls.SemSetAll id values) n =
       set-well k fine pid a acts (calls.SemSetAll id values) id (get k.sets id) refl
+  call-well (calls.Withdraw name) n = tt
 
 -- Entries.
 
@@ -455,10 +454,10 @@ of-leaves k pid name s l =
     })
 
 -- a call, or a withdrawal, which wakes nobody
-pub entry-wakes : (k : Kernel) → Fine k → (pid : ℕ) (call : AnyCall) (n : ℕ) (s : Successor)
+pub entry-wakes : (k : Kernel) → Fine k → (pid : ℕ) (call : Call) (n : ℕ) (s : Successor)
     → transition k pid call n ≡ Some s → WakesRightly k pid s
-entry-wakes k fine pid (Plain call) n s is = of-makes k fine pid call n s (makes k pid call n s is)
-entry-wakes k fine pid (Withdraw name) n s is = of-leaves k pid name s (leaves k pid name n s is)
+entry-wakes k fine pid (calls.Withdraw name) n s is = of-leaves k pid name s (leaves k pid name n s is)
+entry-wakes k fine pid call n s is = of-makes k fine pid call n s (makes k pid call n s refl is)
 
 -- behind each legal history
 pub reachable-wakes : ReachableEntriesWakeRightly

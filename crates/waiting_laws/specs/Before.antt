@@ -1,13 +1,11 @@
 -- What is as before where nobody waits: the same calls have the same outcomes, and lead to the same kernels.
-use Rattle.std.specs.Prelude.{◌≡◌, ℕ, false, List, map, Option, Some, None}
+use Rattle.std.specs.Prelude.{◌≡◌, ℕ, false, List, Option, Some, None}
 use Rattle.std.specs.List.{AllByRecursion}
 use Rattle.pico_base.specs.declared.call.Call.{Call}
-use Rattle.pico_base.specs.declared.reply.Entry as plain_entry
-use Rattle.kernel_model.specs.Waiting.{is_waiting}
+use Rattle.pico_base.specs.declared.reply.Entry.{Entry}
 use Rattle.kernel_model.specs.Transition as plain
 use Rattle.kernel_model.specs.History as plain_history
-use Rattle.waiting_model.specs.declared.entries.AnyCall.TheVariants.{Plain}
-use Rattle.waiting_model.specs.declared.entries.Entry.{Entry}
+use Rattle.waiting_model.specs.Calls.{may_park}
 use Rattle.waiting_model.specs.Kernel.{Kernel}
 use Rattle.waiting_model.specs.Transition.{Successor, transition}
 use Rattle.waiting_model.specs.History.{IsLegal}
@@ -25,21 +23,17 @@ LeadAlike None None = Unit {0}
 LeadAlike (Some s) (Some p) = LeadsAlike s p
 LeadAlike s p = ⊥
 
--- Where nobody waits a call in no form that may wait does what it did before: it has the same reply, wakes nobody, and
--- leads to the same kernel, in which nobody waits either.
+-- Where nobody waits a call that can't park does what it did before: it has the same reply, wakes nobody, and leads to
+-- the same kernel, in which nobody waits either. A withdrawal has no result in either.
 abbrev pub CallsAreAsBefore : Type 0
-CallsAreAsBefore = (k : Kernel) (pid : ℕ) (call : Call) (n : ℕ) → NobodyWaits k → is_waiting call ≡ false
-    → LeadAlike (transition k pid (Plain call) n) (plain.transition (plain_kernel k) pid call n)
+CallsAreAsBefore = (k : Kernel) (pid : ℕ) (call : Call) (n : ℕ) → NobodyWaits k → may_park call ≡ false
+    → LeadAlike (transition k pid call n) (plain.transition (plain_kernel k) pid call n)
 
--- a history of before, as one of a kernel in which callers wait
-abbrev pub as_entry : plain_entry.Entry → Entry
-as_entry e = record { pid = e.pid; call = Plain e.call; outcome = e.outcome; by = e.by }
+abbrev pub NeverMayPark : List Entry → Type 0
+NeverMayPark h = AllByRecursion (λ e. may_park e.call ≡ false) h
 
-abbrev pub NeverMayWait : List plain_entry.Entry → Type 0
-NeverMayWait h = AllByRecursion (λ e. is_waiting e.call ≡ false) h
-
--- each history that was legal is, and one without a form that may wait is legal only if it was
+-- each history that was legal is, and one without a call that may park is legal only if it was
 abbrev pub HistoriesAreAsBefore : Type 0
 HistoriesAreAsBefore =
-    ((h : List plain_entry.Entry) → plain_history.IsLegal h → IsLegal (map as_entry h))
-    × ((h : List plain_entry.Entry) → NeverMayWait h → IsLegal (map as_entry h) → plain_history.IsLegal h)
+    ((h : List Entry) → plain_history.IsLegal h → IsLegal h)
+    × ((h : List Entry) → NeverMayPark h → IsLegal h → plain_history.IsLegal h)

@@ -4,10 +4,10 @@ use Rattle.pico_base.specs.declared.call.Call.{Call}
 use Rattle.pico_base.specs.declared.call.Call.TheVariants as calls
 use Rattle.pico_base.specs.declared.numbers.Name.{Name}
 use Rattle.pico_base.specs.declared.numbers.Name.TheVariants.{Msg, Sem}
+use Rattle.pico_base.specs.declared.reply.Entry.{Entry}
 use Rattle.number_maps.specs.Maps.{Numbered, get}
 use Rattle.kernel_model.specs.Row.{NotYet, wait}
 use Rattle.waiting_model.specs.declared.callers.Waiting.{Waiting}
-use Rattle.waiting_model.specs.declared.entries.Entry.{Entry}
 use Rattle.waiting_model.specs.Calls.{waits_at, is_same_name}
 use Rattle.waiting_model.specs.Waiters.{Awaited}
 use Rattle.waiting_model.specs.Marks.{Alive}

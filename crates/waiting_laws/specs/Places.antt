@@ -1,8 +1,8 @@
 -- Where a fitting history has a process's call wait, the kernel has it parked.
 use Rattle.std.specs.Prelude.{◌≡◌, ℕ, List, Some, is_some}
+use Rattle.pico_base.specs.declared.reply.Entry.{Entry}
 use Rattle.pico_base.specs.declared.script.Script.{Script}
 use Rattle.number_maps.specs.Maps.{get}
-use Rattle.waiting_model.specs.declared.entries.Entry.{Entry}
 use Rattle.waiting_model.specs.Kernel.{Kernel, opening}
 use Rattle.waiting_model.specs.History.{Replays}
 use Rattle.waiting_model.specs.Fitting.{FitsFrom, Places, Progress, opening_places}

@@ -12,7 +12,6 @@ use Rattle.number_maps.specs.Maps.{get}
 use Rattle.kernel_model.specs.Effect.{reply_alone}
 use Rattle.kernel_model.specs.Queue.{Queue}
 use Rattle.kernel_model.specs.SemaphoreSet.{SemaphoreSet}
-use Rattle.waiting_model.specs.declared.entries.AnyCall.TheVariants.{Plain, Withdraw}
 use Rattle.waiting_model.specs.declared.callers.Waiting.{Waiting}
 use Rattle.waiting_model.specs.Waiters.{Awaited, without_waiter}
 use Rattle.waiting_model.specs.Marks.{after_reply}
@@ -33,7 +32,7 @@ pub record RemovesQueue (id : ℕ) (ws : List Waiting) (s : Successor) : Type 0 
 
 abbrev pub QueueRemovalsWakeAll : Type 0
 QueueRemovalsWakeAll = (k : Kernel) (pid id n : ℕ) (q : Awaited Queue) (s : Successor) → get k.queues id ≡ Some q
-    → transition k pid (Plain (calls.MsgRmid id)) n ≡ Some s → RemovesQueue id q.waiters s
+    → transition k pid (calls.MsgRmid id) n ≡ Some s → RemovesQueue id q.waiters s
 
 -- the same for a set
 pub record RemovesSet (id : ℕ) (ws : List Waiting) (s : Successor) : Type 0 where
@@ -42,7 +41,7 @@ pub record RemovesSet (id : ℕ) (ws : List Waiting) (s : Successor) : Type 0 wh
 
 abbrev pub SetRemovalsWakeAll : Type 0
 SetRemovalsWakeAll = (k : Kernel) (pid id n : ℕ) (set : Awaited SemaphoreSet) (s : Successor) → get k.sets id ≡ Some set
-    → transition k pid (Plain (calls.SemRmid id)) n ≡ Some s → RemovesSet id set.waiters s
+    → transition k pid (calls.SemRmid id) n ≡ Some s → RemovesSet id set.waiters s
 
 -- the waiter of a process is taken out at the name where it waits, and nowhere else
 abbrev pub queue_without_waiter : ℕ → Name → ℕ → Awaited Queue → Awaited Queue
@@ -68,4 +67,4 @@ pub record Withdraws (k : Kernel) (pid : ℕ) (name : Name) (s : Successor) : Ty
 
 abbrev pub WithdrawalsLeaveTheRest : Type 0
 WithdrawalsLeaveTheRest = (k : Kernel) (pid : ℕ) (name : Name) (n : ℕ) (s : Successor)
-    → transition k pid (Withdraw name) n ≡ Some s → Withdraws k pid name s
+    → transition k pid (calls.Withdraw name) n ≡ Some s → Withdraws k pid name s

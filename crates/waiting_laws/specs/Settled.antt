@@ -1,7 +1,7 @@
 -- Between entries nobody waits whose call could go on.
 use Rattle.std.specs.Prelude.{◌≡◌, ℕ, List, Some}
-use Rattle.waiting_model.specs.declared.entries.AnyCall.{AnyCall}
-use Rattle.waiting_model.specs.declared.entries.Entry.{Entry}
+use Rattle.pico_base.specs.declared.call.Call.{Call}
+use Rattle.pico_base.specs.declared.reply.Entry.{Entry}
 use Rattle.waiting_model.specs.Waiters.{IsSettled}
 use Rattle.waiting_model.specs.Queue.{try_queue}
 use Rattle.waiting_model.specs.SemaphoreSet.{try_set}
@@ -17,7 +17,7 @@ pub record NobodyCouldGoOn (k : Kernel) : Type 0 where
 
 -- each entry leads from such a kernel to one of that kind
 abbrev pub EntriesSettle : Type 0
-EntriesSettle = (k : Kernel) (pid : ℕ) (call : AnyCall) (n : ℕ) (s : Successor) → NobodyCouldGoOn k
+EntriesSettle = (k : Kernel) (pid : ℕ) (call : Call) (n : ℕ) (s : Successor) → NobodyCouldGoOn k
     → transition k pid call n ≡ Some s → NobodyCouldGoOn s.kernel
 
 -- and so does each legal history

@@ -1,9 +1,9 @@
 -- Whom an entry wakes.
 use Rattle.std.specs.Prelude.{◌≡◌, ℕ, Bool, true, false, nat_eq, List, [], ◌∷◌, Some, None, is_some}
 use Rattle.std.specs.List.{list_any}
+use Rattle.pico_base.specs.declared.call.Call.{Call}
+use Rattle.pico_base.specs.declared.reply.Entry.{Entry}
 use Rattle.pico_base.specs.declared.reply.Reply.{Reply}
-use Rattle.waiting_model.specs.declared.entries.AnyCall.{AnyCall}
-use Rattle.waiting_model.specs.declared.entries.Entry.{Entry}
 use Rattle.waiting_model.specs.Kernel.{Kernel, opening}
 use Rattle.waiting_model.specs.Transition.{Successor, transition}
 use Rattle.waiting_model.specs.History.{Replays}
@@ -27,5 +27,5 @@ pub record WakesRightly (k : Kernel) (pid : ℕ) (s : Successor) : Type 0 where
 
 -- each entry behind a legal history wakes rightly
 abbrev pub ReachableEntriesWakeRightly : Type 0
-ReachableEntriesWakeRightly = (h : List Entry) (k : Kernel) → Replays opening h k → (pid : ℕ) (call : AnyCall) (n : ℕ)
+ReachableEntriesWakeRightly = (h : List Entry) (k : Kernel) → Replays opening h k → (pid : ℕ) (call : Call) (n : ℕ)
     → (s : Successor) → transition k pid call n ≡ Some s → WakesRightly k pid s

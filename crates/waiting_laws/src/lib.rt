@@ -11,14 +11,14 @@ ghost use Rattle.waiting_laws.specs.Removals.{QueueRemovalsWakeAll, SetRemovalsW
 ghost use Rattle.waiting_laws.specs.Settled.{EntriesSettle, ReachableKernelsAreSettled};
 ghost use Rattle.waiting_laws.specs.Woken.{ReachableEntriesWakeRightly};
 
-/// Where nobody waits, a call in no form that may wait does what it does in a kernel without callers that wait: the
-/// same reply, nobody woken, and the same kernel, in which nobody waits either.
+/// Where nobody waits, a call that can't park does what it does in a kernel without callers that wait: the same reply,
+/// nobody woken, and the same kernel, in which nobody waits either. A withdrawal has no result in either.
 pub fn calls_are_as_before()
     ensures { CallsAreAsBefore }
 {}
 
-/// So each history that is legal in a kernel without callers that wait is legal here, and one without a form that may
-/// wait is legal here only if it is there.
+/// So each history that is legal in a kernel without callers that wait is legal here, and one without a call that may
+/// park is legal here only if it is there.
 pub fn histories_are_as_before()
     ensures { HistoriesAreAsBefore }
 {}

@@ -16,25 +16,23 @@ use Rattle.pico_base.specs.declared.signal.SigArg.TheVariants.{Zero, Is}
 use Rattle.pico_base.specs.declared.signal.Act.TheVariants.{Ign, Catch}
 use Rattle.pico_base.specs.declared.signal.How.TheVariants.{Block}
 use Rattle.kernel_model.specs.Examples.{only_usr1, no_signal, step}
-use Rattle.waiting_model.specs.declared.entries.AnyCall.{AnyCall}
-use Rattle.waiting_model.specs.declared.entries.AnyCall.TheVariants.{Plain, Withdraw}
 use Rattle.waiting_model.specs.Kernel.{Kernel, opening}
 use Rattle.waiting_model.specs.Transition.{Successor, transition}
 
 -- what a process makes, and the number for what it may create
 pub record Made : Type 0 where
   pub pid : ℕ
-  pub call : AnyCall
+  pub call : Call
   pub number : ℕ
 
 abbrev pub by : ℕ → Call → Made
-by pid call = record { pid = pid; call = Plain call; number = 0 }
+by pid call = record { pid = pid; call = call; number = 0 }
 
 abbrev pub creating : ℕ → Call → ℕ → Made
-creating pid call number = record { pid = pid; call = Plain call; number = number }
+creating pid call number = record { pid = pid; call = call; number = number }
 
 abbrev pub withdraws : ℕ → Name → Made
-withdraws pid name = record { pid = pid; call = Withdraw name; number = 0 }
+withdraws pid name = by pid (calls.Withdraw name)
 
 -- what these come to, in order; none where there is no transition, and the kernel stays
 abbrev pub outcome_in : Option Successor → Option Outcome

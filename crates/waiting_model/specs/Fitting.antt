@@ -4,14 +4,12 @@ use Rattle.std.specs.Prelude.{◌≡◌, ◌⊎◌, ℕ, Bool, true, false, List
 use Rattle.std.specs.List.{AllByRecursion}
 use Rattle.pico_base.specs.declared.call.Call.{Call}
 use Rattle.pico_base.specs.declared.call.Call.TheVariants as calls
+use Rattle.pico_base.specs.declared.reply.Entry.{Entry}
 use Rattle.pico_base.specs.declared.reply.Reply.{Reply}
 use Rattle.pico_base.specs.declared.reply.Reply.TheVariants as replies
 use Rattle.pico_base.specs.declared.script.Script.{Script}
 use Rattle.number_maps.specs.Maps.{Numbered, get, put}
 use Rattle.kernel_model.specs.Fitting.{Place, IsDue, due, place_after, move_on, block_place, block_at, child_vars}
-use Rattle.waiting_model.specs.declared.entries.AnyCall.{AnyCall}
-use Rattle.waiting_model.specs.declared.entries.AnyCall.TheVariants.{Plain, Withdraw}
-use Rattle.waiting_model.specs.declared.entries.Entry.{Entry}
 
 -- How far a process is: its place in its block, and whether the call that is due there waits. Then nothing is due.
 pub record Progress : Type 0 where
@@ -38,9 +36,9 @@ abbrev pub after_withdrawal : Option Reply → Progress → Progress
 after_withdrawal None p = p
 after_withdrawal (Some reply) p = after_wake reply p
 
-abbrev pub after_entry : AnyCall → Option Reply → Progress → Progress
-after_entry (Plain call) own p = after_own p.place call own
-after_entry (Withdraw name) own p = after_withdrawal own p
+abbrev pub after_entry : Call → Option Reply → Progress → Progress
+after_entry (calls.Withdraw name) own p = after_withdrawal own p
+after_entry call own p = after_own p.place call own
 
 -- how far each process is, by its number; process 1 begins at block 1, with no variable set
 abbrev pub Places : Type 0
@@ -50,14 +48,10 @@ abbrev pub opening_places : Script → Places
 opening_places script = (1, at_place (block_place (block_at script 1) [])) ∷ []
 
 -- a forked process begins with the variables that its parent had before the line, the one that it sets at 0
-abbrev pub after_fork_of : Script → Places → Place → Call → Option Reply → Places
-after_fork_of script places parent (calls.Fork block) (Some (replies.Num child)) =
+abbrev pub after_fork : Script → Places → Place → Call → Option Reply → Places
+after_fork script places parent (calls.Fork block) (Some (replies.Num child)) =
     put places child (at_place (block_place (block_at script block) (child_vars parent)))
-after_fork_of script places parent call own = places
-
-abbrev pub after_fork : Script → Places → Place → AnyCall → Option Reply → Places
-after_fork script places parent (Plain call) own = after_fork_of script places parent call own
-after_fork script places parent (Withdraw name) own = places
+after_fork script places parent call own = places
 
 -- those who are woken go on
 abbrev pub woken_at : Places → ℕ × Reply → Option Progress → Places
@@ -75,9 +69,9 @@ places_after script places e p =
     e.outcome.woken
 
 -- the call due, or the end by a signal in its place; a process that waits makes nothing but its withdrawal
-abbrev pub IsNext : Progress → AnyCall → Type 0
-IsNext p (Plain call) = (p.parked ≡ false) × IsDue p.place call
-IsNext p (Withdraw name) = p.parked ≡ true
+abbrev pub IsNext : Progress → Call → Type 0
+IsNext p (calls.Withdraw name) = p.parked ≡ true
+IsNext p call = (p.parked ≡ false) × IsDue p.place call
 
 -- an entry is of a process that was forked, or of process 1, and makes what is next; the rest goes on from there
 pub record FitsEntry (script : Script) (places : Places) (e : Entry) (Rest : Places → Type 0) : Type 0 where

@@ -1,7 +1,7 @@
 -- A history is a list of carried-out calls. It is legal where each is the kernel's at its point.
 use Rattle.std.specs.Prelude.{◌≡◌, List, [], ◌∷◌, Some}
+use Rattle.pico_base.specs.declared.reply.Entry.{Entry}
 use Rattle.kernel_model.specs.History.{number_in}
-use Rattle.waiting_model.specs.declared.entries.Entry.{Entry}
 use Rattle.waiting_model.specs.Kernel.{Kernel, opening}
 use Rattle.waiting_model.specs.Transition.{successor, transition}
 

@@ -11,6 +11,5 @@ pub mod SetCalls
 pub mod Transition
 pub mod History
 pub mod Fitting
-pub mod Trace
 pub mod Examples
 pub mod TraceExamples

@@ -2,21 +2,19 @@
 use Rattle.std.specs.Prelude.{◌≡◌, ◌⊎◌, ℕ, pos, true, false, List, [], ◌∷◌, ◌++◌, Option, Some, None, refl, codes}
 use Rattle.std.specs.Fmt.{digits}
 use Rattle.std.proofs.Common.{inl, inr}
+use Rattle.pico_base.specs.declared.call.Call.{Call}
 use Rattle.pico_base.specs.declared.call.Call.TheVariants as calls
 use Rattle.pico_base.specs.declared.numbers.Name.TheVariants.{Proc, Msg, Sem}
+use Rattle.pico_base.specs.declared.reply.Entry.{Entry}
 use Rattle.pico_base.specs.declared.reply.Errno.TheVariants.{Eagain, Eidrm, Eintr}
 use Rattle.pico_base.specs.declared.reply.Reply.{Reply}
 use Rattle.pico_base.specs.declared.reply.Reply.TheVariants.{Num, Message, Ended, Fail}
 use Rattle.pico_base.specs.declared.script.Script.{Script}
-use Rattle.kernel_model.specs.Trace.{entries_total, processes_total, not_ready_total, refused_total}
-use Rattle.waiting_model.specs.declared.entries.AnyCall.{AnyCall}
-use Rattle.waiting_model.specs.declared.entries.AnyCall.TheVariants.{Plain, Withdraw}
-use Rattle.waiting_model.specs.declared.entries.Entry.{Entry}
+use Rattle.kernel_model.specs.Trace.{entry_line, totals_line, trace_text, entries_total, processes_total, not_ready_total, refused_total}
 use Rattle.waiting_model.specs.History.{IsLegal}
 use Rattle.waiting_model.specs.Fitting.{FitsWhole}
-use Rattle.waiting_model.specs.Trace.{entry_line, totals_line, trace_text}
 
-abbrev pub entry : ℕ → AnyCall → Option Reply → List (ℕ × Reply) → Entry
+abbrev pub entry : ℕ → Call → Option Reply → List (ℕ × Reply) → Entry
 entry pid call own woken =
     record { pid = pid; call = call; outcome = record { own = own; woken = woken }; by = 1 }
 
@@ -45,13 +43,13 @@ two_blocks =
 -- the receive parks, the child's send wakes it, and both go on to their ends
 abbrev pub woken_history : List Entry
 woken_history =
-    entry 1 (Plain (calls.MsgGet None false false)) (Some (Num 1)) []
-    ∷ entry 1 (Plain (calls.Fork 2)) (Some (Num 2)) []
-    ∷ entry 1 (Plain (calls.MsgRcv 1 (pos 0) 8 false false)) None []
-    ∷ entry 2 (Plain (calls.MsgSnd 1 (pos 1) (codes "hi") false)) (Some (Num 0))
+    entry 1 (calls.MsgGet None false false) (Some (Num 1)) []
+    ∷ entry 1 (calls.Fork 2) (Some (Num 2)) []
+    ∷ entry 1 (calls.MsgRcv 1 (pos 0) 8 false false) None []
+    ∷ entry 2 (calls.MsgSnd 1 (pos 1) (codes "hi") false) (Some (Num 0))
     ((1, Message (pos 1) (codes "hi")) ∷ [])
-    ∷ entry 1 (Plain (calls.Exit 0)) (Some Ended) []
-    ∷ entry 2 (Plain (calls.Exit 0)) (Some Ended) []
+    ∷ entry 1 (calls.Exit 0) (Some Ended) []
+    ∷ entry 2 (calls.Exit 0) (Some Ended) []
     ∷ []
 
 pub woken_is_legal : IsLegal woken_history
@@ -137,8 +135,8 @@ one_block =
 
 abbrev pub stalled_history : List Entry
 stalled_history =
-    entry 1 (Plain (calls.MsgGet None false false)) (Some (Num 1)) []
-    ∷ entry 1 (Plain (calls.MsgRcv 1 (pos 0) 8 false false)) None []
+    entry 1 (calls.MsgGet None false false) (Some (Num 1)) []
+    ∷ entry 1 (calls.MsgRcv 1 (pos 0) 8 false false) None []
     ∷ []
 
 pub stalled_fits : FitsWhole one_block stalled_history
@@ -162,9 +160,9 @@ stalled_trace = refl
 
 -- lines of withdrawals, and of an entry that wakes several
 pub withdrawal_lines :
-    entry_line one_block (entry 2 (Withdraw (Msg 1)) (Some (Fail Eintr)) [])
-    ++ entry_line one_block (entry 2 (Withdraw (Sem 3)) (Some (Fail Eintr)) [])
-    ++ entry_line one_block (entry 2 (Withdraw (Proc 2)) (Some (Fail Eintr)) [])
+    entry_line one_block (entry 2 (calls.Withdraw (Msg 1)) (Some (Fail Eintr)) [])
+    ++ entry_line one_block (entry 2 (calls.Withdraw (Sem 3)) (Some (Fail Eintr)) [])
+    ++ entry_line one_block (entry 2 (calls.Withdraw (Proc 2)) (Some (Fail Eintr)) [])
     ≡ codes "2 withdraw msg 1 = EINTR by 1\n2 withdraw sem 3 = EINTR by 1\n2 withdraw proc 2 = EINTR by 1\n"
 unfolding digits
 withdrawal_lines = refl
@@ -172,8 +170,8 @@ withdrawal_lines = refl
 -- replies to those who are woken are counted as all others are, and a withdrawal is a refused call
 pub counts_woken_replies :
     totals_line
-    (entry 1 (Plain (calls.MsgRmid 1)) (Some (Num 0)) ((2, Fail Eidrm) ∷ (3, Fail Eagain) ∷ [])
-    ∷ entry 4 (Withdraw (Proc 4)) (Some (Fail Eintr)) [] ∷ [])
+    (entry 1 (calls.MsgRmid 1) (Some (Num 0)) ((2, Fail Eidrm) ∷ (3, Fail Eagain) ∷ [])
+    ∷ entry 4 (calls.Withdraw (Proc 4)) (Some (Fail Eintr)) [] ∷ [])
     ≡ codes "totals entries 2 processes 1 notready 1 refused 2\n"
 unfolding digits entries_total processes_total not_ready_total refused_total
 counts_woken_replies = refl

@@ -18,9 +18,8 @@ use Rattle.kernel_model.specs.Row.{wait}
 use Rattle.kernel_model.specs.SemaphoreSet.{SemaphoreSet}
 use Rattle.kernel_model.specs.Signals.{act_on, with_mask}
 use Rattle.kernel_model.specs.Transition as plain
-use Rattle.waiting_model.specs.declared.entries.AnyCall.{AnyCall}
-use Rattle.waiting_model.specs.declared.entries.AnyCall.TheVariants.{Plain, Withdraw}
 use Rattle.waiting_model.specs.declared.callers.Waiting.{Waiting}
+use Rattle.waiting_model.specs.Calls.{withdrawn_from}
 use Rattle.waiting_model.specs.Waiters.{Awaited, waiter, without_waiter}
 use Rattle.waiting_model.specs.Marks.{Alive, plain_alive, after_reply, spent, is_parked_at}
 use Rattle.waiting_model.specs.Kernel.{Kernel, living_at, with_alive, change_living}
@@ -37,7 +36,8 @@ pub record Successor : Type 0 where
 abbrev pub successor : Kernel → Outcome → Successor
 successor kernel outcome = record { kernel = kernel; outcome = outcome }
 
--- The table of calls. `who` is the caller as it would wait: its process, its call, and where its reply is to go.
+-- The table of calls. `who` is the caller as it would wait: its process, its call, and where its reply is to go. A
+-- withdrawal isn't one of them: it has a step of its own.
 abbrev pub effect_by : Kernel → Waiting → Alive → Call → ℕ → Option Effect
 effect_by k who a (calls.Fork block) n = fork_effect k who.pid a n
 effect_by k who a (calls.Exit status) n = Some (end_process k who.pid a (endings.Exited (status % 256)))
@@ -66,6 +66,7 @@ effect_by k who a (calls.SemSetVal id num value) n = Some (on_set k id who)
 effect_by k who a (calls.SemGetAll id) n = Some (on_set k id who)
 effect_by k who a (calls.SemSetAll id values) n = Some (on_set k id who)
 effect_by k who a (calls.SemRmid id) n = Some (on_named k (get k.sets id) (remove_set k id))
+effect_by k who a (calls.Withdraw name) n = None
 
 abbrev pub effect : Kernel → Waiting → Alive → ℕ → Option Effect
 effect k who a n = effect_by k who a who.call n
@@ -123,12 +124,16 @@ withdrawn k pid name =
 abbrev pub withdraw : Kernel → ℕ → Name → Successor
 withdraw k pid name = successor (withdrawn k pid name) (reply_alone (replies.Fail Eintr))
 
-abbrev pub transition_by : Kernel → ℕ → AnyCall → ℕ → Option Alive → Option Successor
-transition_by k pid call n None = None
-transition_by k pid (Plain call) n (Some a) =
+-- a call that ends no wait is carried out, and one that does is a withdrawal
+abbrev pub step_by : Kernel → ℕ → Call → ℕ → Alive → Option Name → Option Successor
+step_by k pid call n a None =
     if may_make a call then outcome_of pid call (effect k (waiter pid call) a n) else None
-transition_by k pid (Withdraw name) n (Some a) =
+step_by k pid call n a (Some name) =
     if may_withdraw pid a name then Some (withdraw k pid name) else None
 
-abbrev pub transition : Kernel → ℕ → AnyCall → ℕ → Option Successor
+abbrev pub transition_by : Kernel → ℕ → Call → ℕ → Option Alive → Option Successor
+transition_by k pid call n None = None
+transition_by k pid call n (Some a) = step_by k pid call n a (withdrawn_from call)
+
+abbrev pub transition : Kernel → ℕ → Call → ℕ → Option Successor
 transition k pid call n = transition_by k pid call n (living_at k pid)

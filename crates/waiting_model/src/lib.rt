@@ -3,7 +3,5 @@
 #![tactic(auto)]
 
 mod callers;
-mod entries;
 
 pub use callers::{Applied, Waiting, Wake, Wakes};
-pub use entries::{AnyCall, Entries, Entry};

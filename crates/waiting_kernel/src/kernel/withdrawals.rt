@@ -1,7 +1,8 @@
 //! A process that a signal has struck doesn't wait any more.
 ghost use Rattle.std.specs.Prelude.{◌≡◌, ◌↔◌, ℕ, false, IfOk, OnErr, IsErrOf, Some, None};
 ghost use Rattle.std.specs.Option.{option_map_or};
-ghost use Rattle.waiting_model.specs.declared.entries.AnyCall.TheVariants.{Withdraw};
+ghost use Rattle.pico_base.specs.declared.call.Call.TheVariants.{Withdraw};
+ghost use Rattle.waiting_model.specs.Calls.{withdrawn_from};
 ghost use Rattle.waiting_model.specs.Kernel.{living_at};
 ghost use Rattle.waiting_model.specs.Transition.{successor, transition, may_withdraw, unparked};
 
@@ -9,7 +10,17 @@ use crate::fault::CallFault;
 use crate::kernel::Kernel;
 use crate::maps::{leave_queue, leave_set};
 use crate::process::Change;
-use pico_base::{Errno, Name, Outcome, Pid, Reply};
+use pico_base::{Call, Errno, Name, Outcome, Pid, Reply};
+
+/// Where the wait is that a call ends; no other call than a withdrawal ends one.
+pub(super) fn withdrawn_from(call: &Call) -> Option<Name>
+    ensures { result ≡ withdrawn_from call.now }
+{
+    match call {
+        Call::Withdraw { name } => Some(*name),
+        _ => None,
+    }
+}
 
 /// Withdrawals.
 impl Kernel {
