@@ -10,7 +10,7 @@ use pico_base::{Bytes, Errno, Id, Kind, Name, Pid, Sig, SigArg, UnpackFault};
 use std::alloc::Global;
 
 /// What a reader answers: a value and the bytes behind it.
-pub(crate) type Read<'a, T> = Result<(T, &'a [u8]), UnpackFault>;
+pub type Read<'a, T> = Result<(T, &'a [u8]), UnpackFault>;
 
 pub(crate) fn byte(bytes: &[u8]) -> Read<'_, u8>
     ensures { Gives (λ x. (x.0, x.1.now)) result (byte_at bytes.now) }

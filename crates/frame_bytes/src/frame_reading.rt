@@ -157,8 +157,10 @@ fn parcel(alloc: Global, bytes: &[u8]) -> Read<'_, Parcel>
     Ok((parcel, rest))
 }
 
+/// A call that was asked for, as Forward and Bounce bring it: the node of its caller (1 byte), the ticket, the process
+/// number, and the call. `NotABody` comes exactly where no such field stands there.
 #[tactic(auto, unfolding(crate::specs::Frames::asked_at))]
-fn asked(alloc: Global, bytes: &[u8]) -> Read<'_, Asked>
+pub fn read_asked(alloc: Global, bytes: &[u8]) -> Read<'_, Asked>
     ensures { Gives (λ x. (x.0, x.1.now)) result (asked_at bytes.now) }
 {
     let (caller, rest) = node(bytes)?;
@@ -268,11 +270,11 @@ fn frame_fields(alloc: Global, code: u8, bytes: &[u8]) -> Read<'_, Frame>
         1 => ask(alloc, bytes),
         2 => request(alloc, bytes),
         3 => {
-            let (asked, rest) = asked(alloc, bytes)?;
+            let (asked, rest) = read_asked(alloc, bytes)?;
             Ok((Frame::Forward { asked }, rest))
         }
         4 => {
-            let (asked, rest) = asked(alloc, bytes)?;
+            let (asked, rest) = read_asked(alloc, bytes)?;
             Ok((Frame::Bounce { asked }, rest))
         }
         5 => answer(alloc, bytes),

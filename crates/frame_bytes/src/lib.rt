@@ -17,6 +17,9 @@ mod writing;
 
 pub use encoding::encode;
 pub use fault::FrameFault;
+pub use fields::Read;
+pub use frame_reading::read_asked;
 pub use joiner::Joiner;
 pub use laws::{a_stream_has_one_reading, no_spelling_begins_another, pieces_do_not_matter};
 pub use limits::{has_room_to_go_on, is_within_limits};
+pub use writing::put_asked;

@@ -395,7 +395,9 @@ fn put_asking(out: &mut Vec<u8>, ticket: u32, pid: Pid, call: &Call) -> Result<(
     put_call(out, call)
 }
 
-fn put_asked(out: &mut Vec<u8>, asked: &Asked) -> Result<(), Memory>
+/// Adds the bytes of a call that was asked for, as Forward and Bounce bring it. A refusal of memory may leave a part of
+/// them.
+pub fn put_asked(out: &mut Vec<u8>, asked: &Asked) -> Result<(), Memory>
     requires { IsTrue (is_call asked.now.call) }
     ensures bytes { OnOk result (out.new.items ≡ out.old.items ++ asked_field asked.now) }
     ensures fits { OnOk result (HasAskedRanges asked.now) }
