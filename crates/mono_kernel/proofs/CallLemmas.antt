@@ -1,67 +1,145 @@
--- Calls by the effect of their kind.
-use Rattle.std.proofs.Common.{◌≡◌, ◌∙◌, ℕ, ℤ, Bool, true, List, Option, Some, None, IfSome, Result, Ok, sym, ap, subst}
+-- A whole call: its effect, the caller's own marks, and the outcome.
+use Rattle.std.proofs.Common.{◌≡◌, ◌↔◌, ◌∙◌, ℕ, Bool, true, false, if◌then◌else◌, List, Option, Some, None, is_some, IsSome, IfSome, Result, Ok, Err, refl, sym, ap}
+use Rattle.std.specs.Option.{option_map_or}
 use Rattle.pico_base.specs.declared.call.Call.{Call}
-use Rattle.pico_base.specs.declared.call.Call.TheVariants as calls
-use Rattle.pico_base.specs.declared.call.SemStep.{SemStep}
+use Rattle.pico_base.specs.declared.reply.Outcome.{Outcome}
 use Rattle.pico_base.specs.declared.reply.Reply.{Reply}
-use Rattle.pico_base.specs.declared.reply.Reply.TheVariants.{Bits}
-use Rattle.pico_base.specs.declared.signal.How.{How}
-use Rattle.pico_base.specs.declared.signal.PerSignal.{PerSignal}
-use Rattle.number_maps.specs.Maps.{get}
-use Rattle.kernel_model.specs.Signals.{with_mask}
-use Rattle.kernel_model.specs.Row.{Alive}
-use Rattle.kernel_model.specs.Queue.{receive}
-use Rattle.kernel_model.specs.Kernel.{Kernel, living_at}
-use Rattle.kernel_model.specs.Effect.{Effect, on_named}
-use Rattle.kernel_model.specs.ProcessCalls.{with_signals}
-use Rattle.kernel_model.specs.QueueCalls.{receive_effect}
-use Rattle.kernel_model.specs.SetCalls.{operate}
-use Rattle.kernel_model.specs.Transition.{effect}
+use Rattle.waiting_model.specs.Calls.{withdrawn_from}
+use Rattle.waiting_model.specs.Waiters.{waiter}
+use Rattle.waiting_model.specs.Marks.{Alive}
+use Rattle.waiting_model.specs.Kernel.{Kernel, living_at}
+use Rattle.waiting_model.specs.Effect.{Effect, outcome_of_effect}
+use Rattle.waiting_model.specs.Transition.{Successor, successor, effect, may_make, finish_call, outcome_of, step_by, transition, transition_by}
+use Rattle.mono_kernel.specs.declared.done.Done.{Done}
 use Rattle.mono_kernel.specs.declared.fault.CallFault.{CallFault}
-use Rattle.mono_kernel.specs.Answers.{Answers}
+use Rattle.mono_kernel.specs.declared.fault.CallFault.TheVariants.{Memory, NotAllowed}
+use Rattle.mono_kernel.specs.Answers.{Answers, FinishesWith, IsDone}
 
-anyway : {X : Type 0} (o : Option X) (Q : Type 0) → Q → IfSome o (λ _. Q)
-anyway None Q h = tt
-anyway (Some x) Q h = h
+outcome_with : Option Reply → List (ℕ × Reply) → Outcome
+outcome_with own woken = record { own = own; woken = woken }
 
--- the living process makes the call, and this is the answer
-Carried : Kernel → Kernel → ℕ → ℕ → Result Reply CallFault → Call → Type 0
-Carried k next pid n r call = IfSome (living_at k pid) (λ a. Answers (effect k pid a call n) r k next)
+finished : (e : Effect) (call : Call) (mid new : Kernel) (pid : ℕ) (done : Done) (outcome : Outcome)
+    → IsDone e call mid done
+    → FinishesWith mid pid done new outcome
+    → outcome_of pid call (Some e) ≡ Some (successor new outcome)
+unfolding outcome_with
+finished e call mid new pid done outcome h f =
+    let kernel : finish_call e.kernel pid call e.own ≡ new =
+    ap (λ (k : Kernel). finish_call k pid call e.own) h.kernel
+    ∙ ap (finish_call mid pid call) h.own
+    ∙ sym (f.kernel call h.parks)
+    in let says : outcome_of_effect e ≡ outcome =
+    ap (λ (own : Option Reply). outcome_with own (outcome_of_effect e).woken) (h.own ∙ sym f.own)
+    ∙ ap (outcome_with outcome.own) (h.woken ∙ sym f.woken)
+    in ap (λ (k : Kernel). Some (successor k (outcome_of_effect e))) kernel
+    ∙ ap (λ (o : Outcome). Some (successor new o)) says
 
--- the answer to `semop` is the effect of the call
-pub semop-carried : (k next : Kernel) (pid n id : ℕ) (steps : List SemStep) (call : Call) (r : Result Reply CallFault)
-    → call ≡ calls.SemOp id steps → Answers (operate k pid id steps) r k next
-    → IfSome (living_at k pid) (λ a. Answers (effect k pid a call n) r k next)
-unfolding Carried
-semop-carried k next pid n id steps call r is h = subst (Carried k next pid n r) (sym is) (anyway (living_at k pid) _ h)
+module _ (k : Kernel) (pid : ℕ) (call : Call) (n : ℕ) (plain : withdrawn_from call ≡ None) where
+  -- what the living process that may make the call does
+  of-living : (a : Alive) (x : Option Successor) → living_at k pid ≡ Some a → may_make a call ≡ true
+      → outcome_of pid call (effect k (waiter pid call) a n) ≡ x
+      → transition k pid call n ≡ x
+  of-living a x lives may is =
+      ap (transition_by k pid call n) lives ∙ ap (step_by k pid call n a) plain
+      ∙ ap (λ (b : Bool). if b then outcome_of pid call (effect k (waiter pid call) a n) else None) may ∙ is
 
--- so is that to `msgrcv`
-pub msgrcv-carried : (k next : Kernel) (pid n id : ℕ) (class : ℤ) (size : ℕ) (noerror nowait : Bool) (call : Call)
-    (reply : Reply)
-    → call ≡ calls.MsgRcv id class size noerror nowait → nowait ≡ true
-    → on_named k (get k.queues id) (λ q. receive_effect k id (receive q pid class size noerror))
-    ≡ record { kernel = next; reply = reply }
-    → IfSome (living_at k pid) (λ a. Answers (effect k pid a call n) (Ok reply) k next)
-unfolding Carried
-msgrcv-carried k next pid n id class size noerror nowait call reply is at_once h =
-    subst (Carried k next pid n (Ok reply)) (sym (is ∙ ap (calls.MsgRcv id class size noerror) at_once))
-    (anyway (living_at k pid) _ (ap Some h))
+  -- the call is carried out
+  pub made : (mid new : Kernel) (a : Alive) (done : Done) (outcome : Outcome) → living_at k pid ≡ Some a
+      → may_make a call ≡ true
+      → Answers (effect k (waiter pid call) a n) call (Ok done) k mid
+      → FinishesWith mid pid done new outcome
+      → transition k pid call n ≡ Some (successor new outcome)
+  made mid new a done outcome lives may answer f =
+      of-living a (Some (successor new outcome)) lives may (at (effect k (waiter pid call) a n) refl answer)
+    where
+      at : (o : Option Effect) → effect k (waiter pid call) a n ≡ o → Answers o call (Ok done) k mid
+          → outcome_of pid call o ≡ Some (successor new outcome)
+      at None is h = absurd h
+      at (Some e) is h = finished e call mid new pid done outcome h f
 
-made : Kernel → Reply → Option Effect
-made m r = Some (record { kernel = m; reply = r })
+  -- there is no such transition
+  pub not-made : (a : Alive) (mid : Kernel) → living_at k pid ≡ Some a → may_make a call ≡ true
+      → Answers (effect k (waiter pid call) a n) call (Err NotAllowed) k mid
+      → transition k pid call n ≡ None
+  not-made a mid lives may answer = of-living a None lives may (ap (outcome_of pid call) answer.0)
 
--- so is that to `sigprocmask`
-pub mask-carried : (k next : Kernel) (pid n : ℕ) (how : How) (set : PerSignal Bool) (call : Call) (reply : Reply)
-    → call ≡ calls.SigProcMask how set
-    → IfSome (living_at k pid) (λ a. next ≡ with_signals k pid a (with_mask a.row.signals how set))
-    → IfSome (living_at k pid) (λ a. reply ≡ Bits a.row.signals.mask)
-    → IfSome (living_at k pid) (λ a. Answers (effect k pid a call n) (Ok reply) k next)
-unfolding Carried made
-mask-carried k next pid n how set call reply is masked replies =
-    subst (Carried k next pid n (Ok reply)) (sym is) (both (living_at k pid) masked replies)
-  where
-    both : (o : Option Alive) → IfSome o (λ a. next ≡ with_signals k pid a (with_mask a.row.signals how set))
-        → IfSome o (λ a. reply ≡ Bits a.row.signals.mask)
-        → IfSome o (λ a. Answers (effect k pid a (calls.SigProcMask how set) n) (Ok reply) k next)
-    both None p q = tt
-    both (Some a) p q = ap (λ (m : Kernel). made m (Bits a.row.signals.mask)) (sym p) ∙ ap (made next) (sym q)
+  -- or only memory was wanting
+  pub not-there : (a : Alive) (mid : Kernel) → living_at k pid ≡ Some a → may_make a call ≡ true
+      → Answers (effect k (waiter pid call) a n) call (Err Memory) k mid
+      → is_some (transition k pid call n) ≡ true
+  not-there a mid lives may answer = at (effect k (waiter pid call) a n) refl answer.0
+    where
+      at : (o : Option Effect) → effect k (waiter pid call) a n ≡ o → IsSome o
+          → is_some (transition k pid call n) ≡ true
+      at None is h = absurd (cc)
+      at (Some e) is h =
+          ap is_some (of-living a (outcome_of pid call (Some e)) lives may (ap (outcome_of pid call) is))
+
+abbrev pub err : CallFault → Result Outcome CallFault
+err fault = Err fault
+
+module _ (k : Kernel) (pid : ℕ) (call : Call) (n : ℕ) (plain : withdrawn_from call ≡ None) where
+  -- a call that may be made is made
+  pub made-whole : (mid new : Kernel) (done : Done) (outcome : Outcome)
+      → option_map_or (λ a. may_make a call) (living_at k pid) false ≡ true
+      → IfSome (living_at k pid) (λ a. Answers (effect k (waiter pid call) a n) call (Ok done) k mid)
+      → FinishesWith mid pid done new outcome
+      → transition k pid call n ≡ Some (successor new outcome)
+  made-whole mid new done outcome allowed answer f = at (living_at k pid) refl allowed answer
+    where
+      at : (o : Option Alive) → living_at k pid ≡ o → option_map_or (λ a. may_make a call) o false ≡ true
+          → IfSome o (λ a. Answers (effect k (waiter pid call) a n) call (Ok done) k mid)
+          → transition k pid call n ≡ Some (successor new outcome)
+      at None is y h = absurd (cc)
+      at (Some a) is y h = made k pid call n plain mid new a done outcome is y h f
+
+  -- one that has no effect isn't
+  pub not-made-whole : (mid : Kernel) → option_map_or (λ a. may_make a call) (living_at k pid) false ≡ true
+      → IfSome (living_at k pid) (λ a. Answers (effect k (waiter pid call) a n) call (Err NotAllowed) k mid)
+      → (transition k pid call n ≡ None) × (mid ≡ k)
+  not-made-whole mid allowed answer = at (living_at k pid) refl allowed answer
+    where
+      at : (o : Option Alive) → living_at k pid ≡ o → option_map_or (λ a. may_make a call) o false ≡ true
+          → IfSome o (λ a. Answers (effect k (waiter pid call) a n) call (Err NotAllowed) k mid)
+          → (transition k pid call n ≡ None) × (mid ≡ k)
+      at None is y h = absurd (cc)
+      at (Some a) is y h = (not-made k pid call n plain a mid is y h, h.1)
+
+  -- and one for which memory was wanting could have been
+  pub could-be-made : (mid : Kernel) → option_map_or (λ a. may_make a call) (living_at k pid) false ≡ true
+      → IfSome (living_at k pid) (λ a. Answers (effect k (waiter pid call) a n) call (Err Memory) k mid)
+      → (transition k pid call n ≡ None → ⊥) × (mid ≡ k)
+  could-be-made mid allowed answer = at (living_at k pid) refl allowed answer
+    where
+      at : (o : Option Alive) → living_at k pid ≡ o → option_map_or (λ a. may_make a call) o false ≡ true
+          → IfSome o (λ a. Answers (effect k (waiter pid call) a n) call (Err Memory) k mid)
+          → (transition k pid call n ≡ None → ⊥) × (mid ≡ k)
+      at None is y h = absurd (cc)
+      at (Some a) is y h = (
+        (λ none. let some : is_some (transition k pid call n) ≡ true = not-there k pid call n plain a mid is y h
+            in let no : false ≡ true = rw none at some in absurd (cc)),
+        h.1,
+      )
+
+  -- a call that may not be made has no transition
+  pub may-not-be-made : option_map_or (λ a. may_make a call) (living_at k pid) false ≡ false
+      → transition k pid call n ≡ None
+  may-not-be-made refused = at (living_at k pid) refl refused
+    where
+      at : (o : Option Alive) → living_at k pid ≡ o → option_map_or (λ a. may_make a call) o false ≡ false
+          → transition k pid call n ≡ None
+      at None is m = ap (transition_by k pid call n) is
+      at (Some a) is m =
+          ap (transition_by k pid call n) is ∙ ap (step_by k pid call n a) plain
+          ∙ ap (λ (b : Bool). if b then outcome_of pid call (effect k (waiter pid call) a n) else None) m
+
+  -- what a fault says
+  pub fault-is : (mid : Kernel) (fault : CallFault)
+      → option_map_or (λ a. may_make a call) (living_at k pid) false ≡ true
+      → IfSome (living_at k pid) (λ a. Answers (effect k (waiter pid call) a n) call (Err fault) k mid)
+      → ((err fault ≡ err NotAllowed) ↔ (transition k pid call n ≡ None)) × (mid ≡ k)
+  fault-is mid NotAllowed allowed answer =
+      let none = not-made-whole mid allowed answer in (((λ _. none.0), (λ _. refl)), none.1)
+  fault-is mid Memory allowed answer =
+      let could = could-be-made mid allowed answer
+      in (((λ same. absurd (cc)), (λ none. absurd (could.0 none))), could.1)

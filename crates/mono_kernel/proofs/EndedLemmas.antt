@@ -1,19 +1,20 @@
 -- The ended children of a living process are in the table, and don't live.
-use Rattle.std.proofs.Common.{◌≡◌, ◌<◌, ◌∙◌, ℕ, zero, suc, Bool, true, false, ◌||◌, if◌then◌else◌, nat_eq, List, [], ◌∷◌, length, get_or, Option, Some, None, is_some, IfSome, IsSome, refl, sym, ap, arith}
+use Rattle.std.proofs.Common.{◌≡◌, ◌<◌, ◌∙◌, ◌⊎◌, inl, inr, ℕ, zero, suc, Bool, true, false, ◌||◌, if◌then◌else◌, nat_eq, List, [], ◌∷◌, length, get_or, Option, Some, None, is_some, IfSome, IsSome, refl, sym, ap, arith}
 use Rattle.std.proofs.Math.Bool.{or-true}
 use Rattle.std.specs.List.{All, list_any, fold}
 use Rattle.std.specs.Option.{option_map, option_map_or, option_and_then}
 use Rattle.pico_base.specs.declared.reply.Ending.{Ending}
 use Rattle.number_maps.specs.Maps.{Numbered, get, put}
-use Rattle.kernel_model.specs.Row.{Alive, lists, matches, first_ended_child, EndedChild}
-use Rattle.kernel_model.specs.Kernel.{Process, Gone, alive_in, living_in, parent_in}
-use Rattle.kernel_model.specs.ProcessCalls.{bury, end_under, processes_after_end}
-use Rattle.mono_kernel.specs.Table.{IsTable, IfLiving, lists_there, parent_at, as_parent}
-use Rattle.mono_kernel.proofs.TableLemmas.{living-put_same, living-put_other}
+use Rattle.kernel_model.specs.Row.{Family, Waited, Found, NotYet, NoChild, lists, matches, first_ended_child, family_after_end, ignores_children, wait, wait_result, EndedChild}
+use Rattle.waiting_model.specs.Marks.{Alive, awaited_children}
+use Rattle.waiting_model.specs.Kernel.{Process, Gone, alive_in, living_in, parent_in}
+use Rattle.waiting_model.specs.ProcessCalls.{bury, end_under, found_for, found_after_end}
+use Rattle.mono_kernel.specs.Table.{IsTable, IfLiving, IsThere, IsFoundIn, keeps, lists_there, parent_at, as_parent, table_after_end}
+use Rattle.mono_kernel.proofs.TableLemmas.{living-put_same, living-put_other, kept-or-ended}
 use Rattle.number_maps.proofs.Order.{same-from-nat_eq, eq-same}
 
 -- the ended child that is found is among them
-found-kept : (which : Option ℕ) (es : List EndedChild)
+pub found-kept : (which : Option ℕ) (es : List EndedChild)
     → IfSome (first_ended_child which es) (λ e. list_any (λ x. nat_eq e.pid x.pid) es ≡ true)
 found-kept which [] = tt
 found-kept which (e ∷ es) = at (matches which e.pid) (first_ended_child which es) (found-kept which es)
@@ -27,18 +28,78 @@ found-kept which (e ∷ es) = at (matches which e.pid) (first_ended_child which 
     at false None rec = tt
     at false (Some x) rec = rw rec (or-true (nat_eq x.pid e.pid))
 
+-- the child that `waitpid` finds is kept
+pub waited-kept : (f : Family) (which : Option ℕ) (child : ℕ) (ending : Ending) → wait f which ≡ Found child ending
+    → keeps f child ≡ true
+waited-kept f which child ending is = at (first_ended_child which f.ended) (found-kept which f.ended) is
+  where
+    none : (b : Bool) → wait_result None b ≡ Found child ending → keeps f child ≡ true
+    none true h = absurd (cc)
+    none false h = absurd (cc)
+
+    at : (o : Option EndedChild) → IfSome o (λ e. list_any (λ x. nat_eq e.pid x.pid) f.ended ≡ true)
+        → wait_result o (list_any (matches which) f.living) ≡ Found child ending
+        → keeps f child ≡ true
+    at None h g = none (list_any (matches which) f.living) g
+    at (Some e) h g = let same : child ≡ e.pid = cc in rw same h
+
 -- a child that `waitpid` finds is in the table
 pub found-there : (ps : Numbered Process) (parents : Numbered ℕ) (pid : ℕ) (a : Alive) (which : Option ℕ)
     → IsTable ps parents
     → living_in ps pid ≡ Some a
-    → IfSome (first_ended_child which a.row.family.ended) (λ e. is_some (get ps e.pid) ≡ true)
-found-there ps parents pid a which t lives =
-    at (first_ended_child which a.row.family.ended) (found-kept which a.row.family.ended)
+    → IsThere ps (wait a.row.family which)
+found-there ps parents pid a which t lives = at (wait a.row.family which) refl
   where
-    at : (o : Option EndedChild) → IfSome o (λ e. list_any (λ x. nat_eq e.pid x.pid) a.row.family.ended ≡ true)
-        → IfSome o (λ e. is_some (get ps e.pid) ≡ true)
-    at None h = tt
-    at (Some e) h = (t.kept pid e.pid a lives h).0
+    at : (w : Waited) → wait a.row.family which ≡ w → IsThere ps w
+    at (Found child ending) is = (t.kept pid child a lives (waited-kept a.row.family which child ending is)).0
+    at NotYet is = tt
+    at NoChild is = tt
+
+-- the child that a parent finds at a child's end is in the table, and isn't the parent
+pub found-in : (ps : Numbered Process) (parents : Numbered ℕ) (pid c : ℕ) (ending : Ending) (w : Waited)
+    → IsTable ps parents
+    → IsSome (living_in ps pid)
+    → IfLiving ps pid (λ a. lists a.row.family c ≡ true)
+    → IfLiving ps pid (λ a. w ≡ found_after_end a c ending)
+    → IsFoundIn ps pid w
+found-in ps parents pid c ending w t lives listed is = at (living_in ps pid) refl lives listed is
+  where
+    flip : (a b : ℕ) → nat_eq a b ≡ false → nat_eq b a ≡ false
+    flip a b g = grind arith
+
+    at : (o : Option Alive) → living_in ps pid ≡ o → IsSome o → IfSome o (λ a. lists a.row.family c ≡ true)
+        → IfSome o (λ a. w ≡ found_after_end a c ending)
+        → IsFoundIn ps pid w
+    at None here some l h = absurd (cc)
+    at (Some a) here some l h = rw h (waiting (awaited_children a.marks.parked))
+      where
+        apart : (child : ℕ) → living_in ps child ≡ None → (b : Bool) → nat_eq pid child ≡ b → b ≡ false
+        apart child none true same =
+            let some : living_in ps child ≡ Some a = rw (← same-from-nat_eq pid child same) here in absurd (cc)
+        apart child none false same = refl
+
+        one : (child : ℕ) → (keeps a.row.family child ≡ true) ⊎ (child ≡ c)
+            → (is_some (get ps child) ≡ true) × (nat_eq pid child ≡ false)
+        one child (inl k) =
+            let kept = t.kept pid child a here k in (kept.0, apart child kept.1 (nat_eq pid child) refl)
+        one child (inr same) = let o = t.listed pid c a here l in (rw same o.0, rw same (flip c pid o.1))
+
+        found : (v : Waited)
+            → ((child : ℕ) (e : Ending) → v ≡ Found child e
+            → keeps (family_after_end a.row.family c ending (ignores_children a.row)) child ≡ true)
+            → IsFoundIn ps pid v
+        found (Found child e) kept =
+            one child (kept-or-ended a.row.family c ending (ignores_children a.row) child (kept child e refl))
+        found NotYet kept = tt
+        found NoChild kept = tt
+
+        waiting : (o : Option (Option ℕ)) → IsFoundIn ps pid
+            (found_for (family_after_end a.row.family c ending (ignores_children a.row)) o)
+        waiting None = tt
+        waiting (Some which) =
+            found (wait (family_after_end a.row.family c ending (ignores_children a.row)) which)
+            (λ child e is.
+            waited-kept (family_after_end a.row.family c ending (ignores_children a.row)) which child e is)
 
 -- each of the ended children is among them
 kept-at : (es : List EndedChild) (k : ℕ) (d : EndedChild) → k < length es
@@ -113,11 +174,11 @@ pub end-is : (ps ns : Numbered Process) (pid : ℕ) (ending : Ending) (es : List
     → IfLiving ps pid (λ a. es ≡ a.row.family.ended) → parent_in pid ps ≡ parent_at ps parent
     → parent_at (fold bury ps es) parent ≡ parent_at ps parent
     → ns ≡ end_under (fold bury ps es) pid ending (parent_at (fold bury ps es) parent)
-    → IfLiving ps pid (λ a. ns ≡ processes_after_end ps pid a ending)
+    → IfLiving ps pid (λ a. ns ≡ table_after_end ps pid a ending)
 end-is ps ns pid ending es parent children found same left = at (living_in ps pid) children
   where
     at : (o : Option Alive) → IfSome o (λ a. es ≡ a.row.family.ended)
-        → IfSome o (λ a. ns ≡ processes_after_end ps pid a ending)
+        → IfSome o (λ a. ns ≡ table_after_end ps pid a ending)
     at None h = tt
     at (Some a) h = rw (← h, found, ← same) left
 

@@ -1,17 +1,19 @@
 -- A change through the table's entry lands in the table.
-use Rattle.std.proofs.Common.{◌≡◌, ◌∙◌, ℕ, Some, refl, ap}
+use Rattle.std.proofs.Common.{◌≡◌, ◌∙◌, ℕ, true, Some, refl, ap}
 use Rattle.std.specs.Ordering.{nat_cmp}
 use Rattle.std.specs.Map.{set_value}
 use Rattle.std.specs.BTreeMap.{is_at}
 use Rattle.std.proofs.lemmas.Map.Steps.{set_value_same}
+use Rattle.pico_base.specs.declared.reply.Ending.{Ending}
 use Rattle.number_maps.specs.Maps.{Numbered, get, put}
-use Rattle.kernel_model.specs.Row.{Alive}
-use Rattle.kernel_model.specs.Kernel.{Process, Living, Ended, Gone}
-use Rattle.kernel_model.specs.ProcessCalls.{parent_after_fork}
+use Rattle.kernel_model.specs.Row.{Waited, lists}
+use Rattle.waiting_model.specs.Marks.{Alive}
+use Rattle.waiting_model.specs.Kernel.{Process, Living, Ended, Gone, where_living}
+use Rattle.waiting_model.specs.ProcessCalls.{parent_after_fork, found_after_end, parent_after_end}
 use Rattle.mono_kernel.specs.declared.process.Change.{Change}
 use Rattle.number_maps.specs.Rising.{IsRising}
-use Rattle.mono_kernel.specs.Process.{after_change, CanChange}
-use Rattle.mono_kernel.specs.Change.{on_living, with_child_there, CanChangeThere}
+use Rattle.mono_kernel.specs.Process.{after_change}
+use Rattle.mono_kernel.specs.Change.{with_child_there, lists_in, found_in}
 use Rattle.mono_kernel.specs.Table.{IfLiving}
 use Rattle.number_maps.proofs.Changes.{set_value-put}
 
@@ -26,10 +28,11 @@ lands ps es pid f Gone w rising there is written = rw there tt
 -- a change in place is a change of the table
 pub change-lands : (ps es : Numbered Process) (pid : ℕ) (change : Change) (v w : Process) → IsRising ps
     → get ps pid ≡ Some v
-    → w ≡ on_living change v → es ≡ set_value (is_at (nat_cmp pid)) ps w
+    → w ≡ where_living (after_change change) v → es ≡ set_value (is_at (nat_cmp pid)) ps w
     → IfLiving ps pid (λ a. es ≡ put ps pid (Living (after_change change a)))
 change-lands ps es pid change v w rising there is written =
-    lands ps es pid (after_change change) v w rising there (λ a living. is ∙ ap (on_living change) living) written
+    lands ps es pid (after_change change) v w rising there
+    (λ a living. is ∙ ap (where_living (after_change change)) living) written
 
 -- so is a new child
 pub child-lands : (ps es : Numbered Process) (pid child : ℕ) (v w : Process) → IsRising ps → get ps pid ≡ Some v
@@ -39,12 +42,30 @@ child-lands ps es pid child v w rising there is written =
     lands ps es pid (λ a. parent_after_fork a child) v w rising there
     (λ a living. is ∙ ap (with_child_there child) living) written
 
+-- so is the end of a child
+pub end-lands : (ps es : Numbered Process) (pid child : ℕ) (ending : Ending) (v w : Process) → IsRising ps
+    → get ps pid ≡ Some v
+    → w ≡ where_living (λ a. parent_after_end a child ending) v → es ≡ set_value (is_at (nat_cmp pid)) ps w
+    → IfLiving ps pid (λ a. es ≡ put ps pid (Living (parent_after_end a child ending)))
+end-lands ps es pid child ending v w rising there is written =
+    lands ps es pid (λ a. parent_after_end a child ending) v w rising there
+    (λ a living. is ∙ ap (where_living (λ a. parent_after_end a child ending)) living) written
+
 -- what was asked of the living process holds of its place
-pub can-there : (ps : Numbered Process) (pid : ℕ) (change : Change) (v : Process) → get ps pid ≡ Some v
-    → IfLiving ps pid (CanChange change) → CanChangeThere change v
-can-there ps pid change (Living a) there can = rw there at can
-can-there ps pid change (Ended ending) there can = tt
-can-there ps pid change Gone there can = tt
+pub lists-there : (ps : Numbered Process) (pid child : ℕ) (v : Process) → get ps pid ≡ Some v
+    → IfLiving ps pid (λ a. lists a.row.family child ≡ true) → lists_in child v
+lists-there ps pid child (Living a) there can = rw there at can
+lists-there ps pid child (Ended ending) there can = tt
+lists-there ps pid child Gone there can = tt
+
+-- and what is found at its place is what the process finds
+pub found-lands : (ps : Numbered Process) (pid child : ℕ) (ending : Ending) (v : Process) (w : Waited)
+    → get ps pid ≡ Some v
+    → w ≡ found_in child ending v
+    → IfLiving ps pid (λ a. w ≡ found_after_end a child ending)
+found-lands ps pid child ending (Living a) w there is = rw there is
+found-lands ps pid child ending (Ended e) w there is = rw there tt
+found-lands ps pid child ending Gone w there is = rw there tt
 
 -- a value written again changes nothing
 pub unchanged-lands : (ps es : Numbered Process) (pid : ℕ) (v w : Process) → get ps pid ≡ Some v → w ≡ v

@@ -6,8 +6,9 @@ use Rattle.std.specs.Ordering.{nat_cmp}
 use Rattle.std.specs.Map.{keys_of}
 use Rattle.std.proofs.lemmas.Map.Keys.{sorted_tail}
 use Rattle.number_maps.specs.Maps.{Numbered, get}
-use Rattle.kernel_model.specs.Row.{Alive, lists}
-use Rattle.kernel_model.specs.Kernel.{Process, Living, Ended, Gone, Parent, alive_in, living_in, parent_if, parent_in}
+use Rattle.kernel_model.specs.Row.{lists}
+use Rattle.waiting_model.specs.Marks.{Alive}
+use Rattle.waiting_model.specs.Kernel.{Process, Living, Ended, Gone, Parent, alive_in, living_in, parent_if, parent_in}
 use Rattle.number_maps.specs.Rising.{IsRising}
 use Rattle.mono_kernel.specs.Table.{IsTable, lists_there, parent_number, parent_at, as_parent}
 use Rattle.number_maps.proofs.Order.{cmp-same, equal-same, greater-differs}

@@ -2,9 +2,9 @@
 use Rattle.std.proofs.Common.{◌≡◌, ◌∙◌, ℕ, true, nat_eq, Option, Some, None, IsSome, IfSome, refl, ap, arith}
 use Rattle.pico_base.specs.declared.signal.Sig.{Sig}
 use Rattle.kernel_model.specs.Signals.{Signals, raise}
-use Rattle.kernel_model.specs.Row.{Alive}
-use Rattle.kernel_model.specs.Kernel.{Kernel, living_at, with_alive}
-use Rattle.kernel_model.specs.ProcessCalls.{with_signals}
+use Rattle.waiting_model.specs.Marks.{Alive}
+use Rattle.waiting_model.specs.Kernel.{Kernel, living_at, with_alive}
+use Rattle.waiting_model.specs.ProcessCalls.{with_signals}
 use Rattle.mono_kernel.specs.declared.process.Change.TheVariants.{Signals as SetSignals}
 use Rattle.mono_kernel.specs.Process.{after_change}
 use Rattle.mono_kernel.specs.Answers.{signalled_kernel}

@@ -1,15 +1,16 @@
 -- The table of processes stays a table.
-use Rattle.std.proofs.Common.{◌≡◌, ◌⊎◌, inl, inr, ◌∙◌, ℕ, Bool, true, false, cond, not, ◌||◌, nat_eq, List, [], ◌∷◌, ◌++◌, Option, Some, None, is_some, IsSome, IfSome, refl, sym, ap, arith}
+use Rattle.std.proofs.Common.{◌≡◌, ◌⊎◌, inl, inr, ◌∙◌, ℕ, Bool, true, false, cond, not, ◌||◌, nat_eq, List, [], ◌∷◌, ◌++◌, Option, Some, None, is_some, IsSome, IfSome, refl, sym, ap, subst, arith}
 use Rattle.std.specs.List.{list_any, filter}
 use Rattle.std.specs.Option.{option_and_then}
 use Rattle.pico_base.specs.declared.reply.Ending.{Ending}
 use Rattle.number_maps.specs.Maps.{Numbered, get, put}
-use Rattle.kernel_model.specs.Row.{Alive, lists, others, ignores_children, with_ended_child, EndedChild, ended_child}
-use Rattle.kernel_model.specs.Kernel.{Process, Living, alive_in, living_in}
-use Rattle.kernel_model.specs.ProcessCalls.{parent_after_fork, new_child}
+use Rattle.kernel_model.specs.Row.{Family, Waited, Found, NotYet, NoChild, lists, ignores_children, family_after_end, without_ended, EndedChild, ended_child}
+use Rattle.waiting_model.specs.Marks.{Alive}
+use Rattle.waiting_model.specs.Kernel.{Process, Living, alive_in, living_in}
+use Rattle.waiting_model.specs.ProcessCalls.{parent_after_fork, new_child, found_after_end, after_waiting, raise_chld, parent_after_end}
 use Rattle.mono_kernel.specs.declared.process.Change.{Change}
-use Rattle.mono_kernel.specs.declared.process.Change.TheVariants.{Signals, Raise, EndChild, Reap, Spend}
-use Rattle.mono_kernel.specs.Process.{after_change, IsPlain}
+use Rattle.mono_kernel.specs.declared.process.Change.TheVariants.{Signals, Raise, Reap, Spend, Park, Answer}
+use Rattle.mono_kernel.specs.Process.{after_change}
 use Rattle.number_maps.specs.Rising.{IsRising}
 use Rattle.mono_kernel.specs.Table.{IsTable, IfLiving, keeps}
 use Rattle.number_maps.proofs.LookUps.{get-put-same, get-put-apart}
@@ -26,6 +27,7 @@ pub living-put_other : (ps : Numbered Process) (k q : ℕ) (v : Process) → nat
     → living_in (put ps k v) q ≡ living_in ps q
 living-put_other ps k q v apart = ap (option_and_then alive_in) (get-put-apart ps k q v apart)
 
+-- what is there is there after a change
 pub there-put : (ps : Numbered Process) (k q : ℕ) (v : Process) → is_some (get ps q) ≡ true
     → is_some (get (put ps k v) q) ≡ true
 there-put ps k q v there = at (nat_eq q k) refl
@@ -145,58 +147,87 @@ kept-filter p q (e ∷ es) h = at (q e) (list_any p (filter q es)) h (kept-filte
         here true g = refl
         here false g = rec g
 
-plain-lists : (change : Change) (a : Alive) → IsPlain change → (child : ℕ)
-    → lists (after_change change a).row.family child ≡ true
+plain-lists : (change : Change) (a : Alive) (child : ℕ) → lists (after_change change a).row.family child ≡ true
     → lists a.row.family child ≡ true
-plain-lists (Signals s) a plain child h = h
-plain-lists (Raise sig) a plain child h = h
-plain-lists (EndChild c ending) a plain child h = absurd plain
-plain-lists (Reap c) a plain child h = h
-plain-lists Spend a plain child h = h
+plain-lists (Signals s) a child h = h
+plain-lists (Raise sig) a child h = h
+plain-lists (Reap c) a child h = h
+plain-lists Spend a child h = h
+plain-lists (Park call) a child h = h
+plain-lists Answer a child h = h
 
-plain-keeps : (change : Change) (a : Alive) → IsPlain change → (child : ℕ)
-    → keeps (after_change change a).row.family child ≡ true
+plain-keeps : (change : Change) (a : Alive) (child : ℕ) → keeps (after_change change a).row.family child ≡ true
     → keeps a.row.family child ≡ true
-plain-keeps (Signals s) a plain child h = h
-plain-keeps (Raise sig) a plain child h = h
-plain-keeps (EndChild c ending) a plain child h = absurd plain
-plain-keeps (Reap c) a plain child h =
+plain-keeps (Signals s) a child h = h
+plain-keeps (Raise sig) a child h = h
+plain-keeps (Reap c) a child h =
     kept-filter (λ e. nat_eq child e.pid) (λ e. not (nat_eq c e.pid)) a.row.family.ended h
-plain-keeps Spend a plain child h = h
+plain-keeps Spend a child h = h
+plain-keeps (Park call) a child h = h
+plain-keeps Answer a child h = h
 
--- a change that moves no child keeps the table in order
+-- a change that moves no living child keeps the table in order
 pub IsTable-plain : (ps ns : Numbered Process) (parents : Numbered ℕ) (pid : ℕ) (change : Change) → IsTable ps parents
-    → IsSome (living_in ps pid) → IsPlain change
+    → IsSome (living_in ps pid)
     → IfLiving ps pid (λ a. ns ≡ put ps pid (Living (after_change change a)))
     → IsRising ns → IsTable ns parents
-IsTable-plain ps ns parents pid change t lives plain is rising = at (living_in ps pid) refl lives is
+IsTable-plain ps ns parents pid change t lives is rising = at (living_in ps pid) refl lives is
   where
     at : (o : Option Alive) → living_in ps pid ≡ o → IsSome o
         → IfSome o (λ a. ns ≡ put ps pid (Living (after_change change a))) → IsTable ns parents
     at None here some h = absurd (cc)
     at (Some a) here some h =
         rw h
-        (IsTable-changed ps parents pid a (after_change change a) t here (plain-lists change a plain)
-        (λ child k. inl (plain-keeps change a plain child k)) (rw h at rising))
+        (IsTable-changed ps parents pid a (after_change change a) t here (plain-lists change a)
+        (λ child k. inl (plain-keeps change a child k)) (rw h at rising))
 
 -- a child that has ended
 
-ended-lists : (a : Alive) (c : ℕ) (ending : Ending) (child : ℕ)
-    → lists (with_ended_child a c ending).row.family child ≡ true
-    → lists a.row.family child ≡ true
-ended-lists a c ending child h = at (ignores_children a.row) refl
-  where
-    at : (b : Bool) → ignores_children a.row ≡ b → lists a.row.family child ≡ true
-    at true is = rest a.row.family.living (rw is at h)
-      where
-        rest : (xs : List ℕ) → list_any (nat_eq child) (others c xs) ≡ true → list_any (nat_eq child) xs ≡ true
-        rest xs g = kept-filter (nat_eq child) (λ x. not (nat_eq c x)) xs g
-    at false is = kept-filter (nat_eq child) (λ x. not (nat_eq c x)) a.row.family.living (rw is at h)
+-- its parent's family, once the child that was found is gone
+abbrev pub family_found : Family → Waited → Family
+family_found f (Found child ending) = without_ended child f
+family_found f NotYet = f
+family_found f NoChild = f
 
-ended-keeps : (a : Alive) (c : ℕ) (ending : Ending) (child : ℕ)
-    → keeps (with_ended_child a c ending).row.family child ≡ true
-    → (keeps a.row.family child ≡ true) ⊎ (child ≡ c)
-ended-keeps a c ending child h = at (ignores_children a.row) refl
+end-family : (ignored : Bool) (b : Alive) (w : Waited)
+    → (raise_chld ignored (after_waiting b w)).row.family ≡ family_found b.row.family w
+end-family true b (Found child ending) = refl
+end-family true b NotYet = refl
+end-family true b NoChild = refl
+end-family false b (Found child ending) = refl
+end-family false b NotYet = refl
+end-family false b NoChild = refl
+
+parent_family : Alive → ℕ → Ending → Family
+parent_family a c ending = family_after_end a.row.family c ending (ignores_children a.row)
+
+after-family : (a : Alive) (c : ℕ) (ending : Ending)
+    → (parent_after_end a c ending).row.family ≡ family_found (parent_family a c ending) (found_after_end a c ending)
+unfolding parent_family
+after-family a c ending = end-family (ignores_children a.row) _ (found_after_end a c ending)
+
+found-lists : (f : Family) (w : Waited) (child : ℕ) → lists (family_found f w) child ≡ true → lists f child ≡ true
+found-lists f (Found c ending) child h = h
+found-lists f NotYet child h = h
+found-lists f NoChild child h = h
+
+found-keeps : (f : Family) (w : Waited) (child : ℕ) → keeps (family_found f w) child ≡ true → keeps f child ≡ true
+found-keeps f (Found c ending) child h =
+    kept-filter (λ e. nat_eq child e.pid) (λ e. not (nat_eq c e.pid)) f.ended h
+found-keeps f NotYet child h = h
+found-keeps f NoChild child h = h
+
+others-list : (f : Family) (c : ℕ) (ending : Ending) (b : Bool) (child : ℕ)
+    → lists (family_after_end f c ending b) child ≡ true
+    → lists f child ≡ true
+others-list f c ending b child h = kept-filter (nat_eq child) (λ x. not (nat_eq c x)) f.living h
+
+-- who is kept after a child's end was kept before, or is that child
+pub kept-or-ended : (f : Family) (c : ℕ) (ending : Ending) (b : Bool) (child : ℕ)
+    → keeps (family_after_end f c ending b) child ≡ true
+    → (keeps f child ≡ true) ⊎ (child ≡ c)
+kept-or-ended f c ending true child h = inl h
+kept-or-ended f c ending false child h = last f.ended h
   where
     last : (es : List EndedChild) → list_any (λ e. nat_eq child e.pid) (es ++ ended_child c ending ∷ []) ≡ true
         → (list_any (λ e. nat_eq child e.pid) es ≡ true) ⊎ (child ≡ c)
@@ -214,28 +245,42 @@ ended-keeps a c ending child h = at (ignores_children a.row) refl
         first true any rec k = inl refl
         first false any rec k = rec k
 
-    at : (b : Bool) → ignores_children a.row ≡ b → (keeps a.row.family child ≡ true) ⊎ (child ≡ c)
-    at true is = inl (rw is at h)
-    at false is = last a.row.family.ended (rw is at h)
+ended-lists : (a : Alive) (c : ℕ) (ending : Ending) (child : ℕ)
+    → lists (parent_after_end a c ending).row.family child ≡ true
+    → lists a.row.family child ≡ true
+unfolding parent_family
+ended-lists a c ending child h =
+    others-list a.row.family c ending (ignores_children a.row) child
+    (found-lists (parent_family a c ending) (found_after_end a c ending) child
+    (subst (λ (f : Family). lists f child ≡ true) (after-family a c ending) h))
+
+ended-keeps : (a : Alive) (c : ℕ) (ending : Ending) (child : ℕ)
+    → keeps (parent_after_end a c ending).row.family child ≡ true
+    → (keeps a.row.family child ≡ true) ⊎ (child ≡ c)
+unfolding parent_family
+ended-keeps a c ending child h =
+    kept-or-ended a.row.family c ending (ignores_children a.row) child
+    (found-keeps (parent_family a c ending) (found_after_end a c ending) child
+    (subst (λ (f : Family). keeps f child ≡ true) (after-family a c ending) h))
 
 -- so does a child's end
 pub IsTable-ended_child : (ps ns : Numbered Process) (parents : Numbered ℕ) (pid c : ℕ) (ending : Ending)
     → IsTable ps parents
     → IsSome (living_in ps pid) → IfLiving ps pid (λ a. lists a.row.family c ≡ true) → living_in ps c ≡ None
-    → IfLiving ps pid (λ a. ns ≡ put ps pid (Living (with_ended_child a c ending))) → IsRising ns → IsTable ns parents
+    → IfLiving ps pid (λ a. ns ≡ put ps pid (Living (parent_after_end a c ending))) → IsRising ns → IsTable ns parents
 IsTable-ended_child ps ns parents pid c ending t lives listed ended is rising =
     at (living_in ps pid) refl lives listed is
   where
     at : (o : Option Alive) → living_in ps pid ≡ o → IsSome o → IfSome o (λ a. lists a.row.family c ≡ true)
-        → IfSome o (λ a. ns ≡ put ps pid (Living (with_ended_child a c ending))) → IsTable ns parents
+        → IfSome o (λ a. ns ≡ put ps pid (Living (parent_after_end a c ending))) → IsTable ns parents
     at None here some l h = absurd (cc)
     at (Some a) here some l h =
         let there = (t.listed pid c a here l).0
-        in let kept : (child : ℕ) → keeps (with_ended_child a c ending).row.family child ≡ true
+        in let kept : (child : ℕ) → keeps (parent_after_end a c ending).row.family child ≡ true
         → (keeps a.row.family child ≡ true) ⊎ ((is_some (get ps child) ≡ true) × (living_in ps child ≡ None)) =
         λ child k. from (ended-keeps a c ending child k)
         in rw h
-        (IsTable-changed ps parents pid a (with_ended_child a c ending) t here (ended-lists a c ending) kept
+        (IsTable-changed ps parents pid a (parent_after_end a c ending) t here (ended-lists a c ending) kept
         (rw h at rising))
       where
         from : {child : ℕ} → (keeps a.row.family child ≡ true) ⊎ (child ≡ c)

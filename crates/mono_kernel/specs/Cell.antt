@@ -1,5 +1,5 @@
 -- A process's place in the table.
-use Rattle.kernel_model.specs.Kernel as kernels
+use Rattle.waiting_model.specs.Kernel as kernels
 use Rattle.mono_kernel.specs.declared.process.State.{State}
 use Rattle.mono_kernel.specs.declared.process.State.TheVariants.{Living, Ended, Gone}
 

@@ -1,22 +1,24 @@
 -- A change at a number, if a process lives there.
-use Rattle.std.specs.Prelude.{ℕ}
-use Rattle.kernel_model.specs.ProcessCalls.{parent_after_fork}
-use Rattle.kernel_model.specs.Kernel.{Process, Living, Ended, Gone}
-use Rattle.mono_kernel.specs.declared.process.Change.{Change}
-use Rattle.mono_kernel.specs.Process.{after_change, CanChange}
-
-abbrev pub on_living : Change → Process → Process
-on_living change (Living a) = Living (after_change change a)
-on_living change (Ended ending) = Ended ending
-on_living change Gone = Gone
-
-abbrev pub CanChangeThere : Change → Process → Type 0
-CanChangeThere change (Living a) = CanChange change a
-CanChangeThere change (Ended ending) = Unit {0}
-CanChangeThere change Gone = Unit {0}
+use Rattle.std.specs.Prelude.{◌≡◌, ℕ, true}
+use Rattle.pico_base.specs.declared.reply.Ending.{Ending}
+use Rattle.kernel_model.specs.Row.{Waited, NotYet, lists}
+use Rattle.waiting_model.specs.Kernel.{Process, Living, Ended, Gone}
+use Rattle.waiting_model.specs.ProcessCalls.{parent_after_fork, found_after_end}
 
 -- a new child, if a process lives there
 abbrev pub with_child_there : ℕ → Process → Process
 with_child_there child (Living a) = Living (parent_after_fork a child)
 with_child_there child (Ended ending) = Ended ending
 with_child_there child Gone = Gone
+
+-- the child is listed, if a process lives there
+abbrev pub lists_in : ℕ → Process → Type 0
+lists_in child (Living a) = lists a.row.family child ≡ true
+lists_in child (Ended ending) = Unit {0}
+lists_in child Gone = Unit {0}
+
+-- what its waitpid finds where the child has ended, if a process lives there and waits in one
+abbrev pub found_in : ℕ → Ending → Process → Waited
+found_in child ending (Living a) = found_after_end a child ending
+found_in child ending (Ended e) = NotYet
+found_in child ending Gone = NotYet

@@ -1,13 +1,16 @@
 -- The table of processes.
-use Rattle.std.specs.Prelude.{◌≡◌, ℕ, Bool, true, false, nat_eq, Option, Some, None, is_some, Result, Ok, Err, IfSome}
+use Rattle.std.specs.Prelude.{◌≡◌, ℕ, Bool, true, false, nat_eq, List, [], ◌∷◌, map, fold, Option, Some, None, is_some, IfSome}
 use Rattle.std.specs.List.{list_any}
 use Rattle.std.specs.Option.{option_map, option_map_or}
-use Rattle.pico_base.specs.declared.reply.Errno.{Errno}
-use Rattle.pico_base.specs.declared.reply.Errno.TheVariants.{Echild}
+use Rattle.pico_base.specs.declared.reply.Ending.{Ending}
+use Rattle.pico_base.specs.declared.reply.Reply.{Reply}
 use Rattle.number_maps.specs.Maps.{Numbered, get}
-use Rattle.kernel_model.specs.Row.{Alive, EndedChild, Family, ended_child, Waited, Found, NotYet, NoChild, lists, ignores_children}
-use Rattle.kernel_model.specs.Kernel.{Process, Parent, living_in, parent_in}
-use Rattle.kernel_model.specs.ProcessCalls.{processes_after_wait}
+use Rattle.kernel_model.specs.Row.{Family, Waited, Found, NotYet, NoChild, lists, ignores_children}
+use Rattle.waiting_model.specs.declared.callers.Wake.{Wake}
+use Rattle.waiting_model.specs.Marks.{Alive, after_reply}
+use Rattle.waiting_model.specs.Effect.{woken_pair}
+use Rattle.waiting_model.specs.Kernel.{Process, Parent, living_in, parent_in, change_living}
+use Rattle.waiting_model.specs.ProcessCalls.{bury_all, end_under, wakes_under, processes_after_wait}
 use Rattle.number_maps.specs.Rising.{IsRising}
 
 -- of the process that lives at a number
@@ -49,13 +52,41 @@ abbrev pub parent_at : Numbered Process → Option ℕ → Option Parent
 parent_at ps None = None
 parent_at ps (Some pid) = option_map (as_parent pid) (living_in ps pid)
 
--- waitpid: what is found, and the table afterwards
-abbrev pub answer_of_wait : Waited → Result (Option EndedChild) Errno
-answer_of_wait (Found child ending) = Ok (Some (ended_child child ending))
-answer_of_wait NotYet = Ok None
-answer_of_wait NoChild = Err Echild
-
+-- the table after a waitpid
 abbrev pub table_after : Numbered Process → ℕ → Alive → Waited → Numbered Process
 table_after ps pid a (Found child ending) = processes_after_wait ps pid a child
 table_after ps pid a NotYet = ps
 table_after ps pid a NoChild = ps
+
+-- a child that is found is in the table
+abbrev pub IsThere : Numbered Process → Waited → Type 0
+IsThere ps (Found child ending) = is_some (get ps child) ≡ true
+IsThere ps NotYet = Unit {0}
+IsThere ps NoChild = Unit {0}
+
+-- and isn't the process that finds it
+abbrev pub IsFoundIn : Numbered Process → ℕ → Waited → Type 0
+IsFoundIn ps pid (Found child ending) = (is_some (get ps child) ≡ true) × (nat_eq pid child ≡ false)
+IsFoundIn ps pid NotYet = Unit {0}
+IsFoundIn ps pid NoChild = Unit {0}
+
+-- the table after the end of a process, and whom that wakes
+abbrev pub table_after_end : Numbered Process → ℕ → Alive → Ending → Numbered Process
+table_after_end ps pid a ending = end_under (bury_all ps a.row.family) pid ending (parent_in pid ps)
+
+abbrev pub woken_pairs : List Wake → List (ℕ × Reply)
+woken_pairs wakes = map woken_pair wakes
+
+abbrev pub woken_by_end : ℕ → Ending → Option Parent → List (ℕ × Reply)
+woken_by_end pid ending parent = woken_pairs (wakes_under pid ending parent)
+
+abbrev pub listed : {X : Type 0} → Option X → List X
+listed None = []
+listed (Some x) = x ∷ []
+
+-- each of those who are woken has its reply
+abbrev pub answer_one : Numbered Process → ℕ × Reply → Numbered Process
+answer_one ps woken = change_living ps woken.0 after_reply
+
+abbrev pub with_answers : Numbered Process → List (ℕ × Reply) → Numbered Process
+with_answers ps woken = fold answer_one ps woken

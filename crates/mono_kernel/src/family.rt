@@ -1,7 +1,8 @@
 //! The living and the ended children of one process.
 ghost use Rattle.std.specs.Prelude.{◌≡◌, ◌∷◌, ◌++◌, true, OnOk, OnErr, IfOk, nat_eq, ◌+◌, ◌≤◌, vec_len, vec_capacity};
 ghost use Rattle.std.specs.List.{list_any};
-ghost use Rattle.kernel_model.specs.Row.{no_family, with_child, lists, family_after_end, first_ended_child, without_ended, matches, others};
+ghost use Rattle.kernel_model.specs.Row.{no_family, with_child, lists, family_after_end, first_ended_child, without_ended, matches, others, wait};
+ghost use Rattle.mono_kernel.specs.Waited.{waited_of};
 ghost use Rattle.mono_kernel.specs.Ends.{other_ends};
 
 use pico_base::{EndedChild, Ending, Memory, Pid};
@@ -27,6 +28,14 @@ impl Model for ChildList {
     ghost view = { λ f. record { living = f.living.items; ended = f.ended.items } };
 
     ghost invariant = { λ f. vec_len f.living + vec_len f.ended ≤ vec_capacity f.ended };
+}
+
+/// What waitpid finds: an ended child, only living ones, or none.
+#[derive(Clone, Copy)]
+pub(crate) enum Waited {
+    Found(EndedChild),
+    NotYet,
+    NoChild,
 }
 
 /// Whether a child is the one that is waited for.
@@ -100,8 +109,19 @@ impl ChildList {
         }
     }
 
+    /// What waitpid finds.
+    pub(crate) fn wait(&self, which: &Option<Pid>) -> Waited
+        ensures { waited_of result ≡ wait self.now which.now }
+    {
+        match self.first_ended(which) {
+            Some(child) => Waited::Found(child),
+            None if self.awaits(which) => Waited::NotYet,
+            None => Waited::NoChild,
+        }
+    }
+
     /// The first ended child that is waited for, with its ending.
-    pub(crate) fn first_ended(&self, which: &Option<Pid>) -> Option<EndedChild>
+    fn first_ended(&self, which: &Option<Pid>) -> Option<EndedChild>
         ensures { result ≡ first_ended_child which.now self.now.ended }
     {
         for child in &self.ended {
@@ -113,7 +133,7 @@ impl ChildList {
     }
 
     /// Whether a living child is waited for.
-    pub(crate) fn awaits(&self, which: &Option<Pid>) -> bool
+    fn awaits(&self, which: &Option<Pid>) -> bool
         ensures { result ≡ list_any (matches which.now) self.now.living }
     {
         self.living.iter().any(|child| is_waited_for(which, *child))

@@ -1,7 +1,10 @@
-//! One POSIX system as one plain value, whose calls are the kernel's transition. `check` replays a
-//! history with it. It has no owner, lease, cache or stream.
+//! One POSIX system in which callers wait, as one plain value whose calls are the kernel's transition. It has no
+//! owner, lease, cache or stream.
 #![tactic(auto)]
 
+mod awaited_queue;
+mod awaited_set;
+mod done;
 mod family;
 mod fault;
 mod kernel;
@@ -13,6 +16,7 @@ mod queue;
 mod semaphores;
 mod signals;
 mod standing;
+mod waiter;
 
 pub use fault::CallFault;
 pub use kernel::Kernel;

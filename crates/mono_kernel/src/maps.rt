@@ -1,116 +1,78 @@
-//! Ordered maps by number, whose growth may be refused.
+//! Ordered maps by number: the queues and the sets, each with those who wait at it.
 ghost use Rattle.std.specs.Prelude.{◌≡◌, IfOk, OnErr, is_some};
 ghost use Rattle.std.specs.Bool.{OnFalse};
 ghost use Rattle.number_maps.specs.Maps.{get, without};
-ghost use Rattle.kernel_model.specs.Queue.{send, receive, set_qbytes};
-ghost use Rattle.kernel_model.specs.SemaphoreSet.{op, set_value, set_all};
-ghost use Rattle.answer_laws.specs.Answers.{Changes, Receives, done_reply};
+ghost use Rattle.waiting_model.specs.Waiters.{waiter, without_waiter};
+ghost use Rattle.waiting_model.specs.Queue.{carry_out_on_queue};
+ghost use Rattle.waiting_model.specs.SemaphoreSet.{carry_out_on_set};
+ghost use Rattle.mono_kernel.specs.At.{CarriesAt, changed_at};
 
-use crate::queue::MessageQueue;
-use crate::semaphores::SemaphoreSet;
-use pico_base::{Bytes, Errno, Id, Memory, Pid, Reply, SemStep};
+use crate::awaited_queue::AwaitedQueue;
+use crate::awaited_set::AwaitedSet;
+use crate::done::Done;
+use pico_base::{Call, Errno, Id, Memory, Pid, Reply};
 use std::alloc::Global;
 use std::collections::BTreeMap;
 
 /// The queues by number.
-pub(crate) type Queues = BTreeMap<Id, MessageQueue>;
+pub(crate) type Queues = BTreeMap<Id, AwaitedQueue>;
 
 /// The semaphore sets by number.
-pub(crate) type Sets = BTreeMap<Id, SemaphoreSet>;
+pub(crate) type Sets = BTreeMap<Id, AwaitedSet>;
 
-/// The reply to a change.
-fn answer(outcome: Result<(), Errno>) -> Reply
-    ensures { result ≡ done_reply outcome }
-{
-    match outcome {
-        Ok(()) => Reply::Num(0),
-        Err(errno) => Reply::Fail(errno),
-    }
-}
-
-/// msgsnd to the queue of a number.
-pub(crate) fn send_at(
+/// Carries out a call on the queue of a number. A refusal of memory changes nothing.
+pub(crate) fn call_queue(
     alloc: Global,
     queues: &mut Queues,
     id: Id,
     pid: Pid,
-    class: i32,
-    text: &Bytes,
-) -> Result<Reply, Memory>
+    call: &Call,
+) -> Result<Done, Memory>
     ensures ok { IfOk result
-        (λ reply. Changes (λ q. send q pid class text.now) queues.old.entries id queues.new.entries reply) }
+        (λ done. CarriesAt (λ q. carry_out_on_queue q (waiter pid call.now)) queues.old.entries id call.now
+        queues.new.entries done) }
     ensures err { OnErr result (queues.new.entries ≡ queues.old.entries) }
 {
     match queues.get_mut(&id) {
-        Some(queue) => Ok(answer(queue.send(alloc, pid, class, text)?)),
-        None => Ok(Reply::Fail(Errno::Einval)),
+        Some(queue) => queue.carry_out(alloc, pid, call),
+        None => Ok(Done::alone(alloc, Reply::Fail(Errno::Einval))),
     }
 }
 
-/// msgrcv from the queue of a number.
-pub(crate) fn receive_at(
-    queues: &mut Queues,
-    id: Id,
-    pid: Pid,
-    class: i32,
-    size: u32,
-    noerror: bool,
-) -> Reply
-    ensures { Receives (λ q. receive q pid class size noerror) queues.old.entries id queues.new.entries result }
-{
-    match queues.get_mut(&id) {
-        Some(queue) => match queue.receive(pid, class, size, noerror) {
-            Ok(message) => message.into_reply(),
-            Err(errno) => Reply::Fail(errno),
-        },
-        None => Reply::Fail(Errno::Einval),
-    }
-}
-
-/// msgctl with IPC_SET at the queue of a number.
-pub(crate) fn set_qbytes_at(queues: &mut Queues, id: Id, qbytes: u32) -> Reply
-    ensures { Changes (λ q. set_qbytes q qbytes) queues.old.entries id queues.new.entries result }
-{
-    match queues.get_mut(&id) {
-        Some(queue) => answer(queue.set_qbytes(qbytes)),
-        None => Reply::Fail(Errno::Einval),
-    }
-}
-
-/// semop on the set of a number.
-pub(crate) fn op_at(
+/// Carries out a call on the set of a number. A refusal of memory changes nothing.
+pub(crate) fn call_set(
     alloc: Global,
     sets: &mut Sets,
     id: Id,
     pid: Pid,
-    steps: &[SemStep],
-) -> Result<Reply, Memory>
-    ensures ok { IfOk result (λ reply. Changes (λ s. op s pid steps.now) sets.old.entries id sets.new.entries reply) }
+    call: &Call,
+) -> Result<Done, Memory>
+    ensures ok { IfOk result
+        (λ done. CarriesAt (λ s. carry_out_on_set s (waiter pid call.now)) sets.old.entries id call.now
+        sets.new.entries done) }
     ensures err { OnErr result (sets.new.entries ≡ sets.old.entries) }
 {
     match sets.get_mut(&id) {
-        Some(set) => Ok(answer(set.op(alloc, pid, steps)?)),
-        None => Ok(Reply::Fail(Errno::Einval)),
+        Some(set) => set.carry_out(alloc, pid, call),
+        None => Ok(Done::alone(alloc, Reply::Fail(Errno::Einval))),
     }
 }
 
-/// semctl with SETVAL at the set of a number.
-pub(crate) fn set_value_at(sets: &mut Sets, id: Id, num: u16, value: u32) -> Reply
-    ensures { Changes (λ s. set_value s num value) sets.old.entries id sets.new.entries result }
+/// A process doesn't wait any more at the queue of a number.
+pub(crate) fn leave_queue(queues: &mut Queues, id: Id, pid: Pid)
+    ensures { queues.new.entries ≡ changed_at (without_waiter pid) queues.old.entries id }
 {
-    match sets.get_mut(&id) {
-        Some(set) => answer(set.set_value(num, value)),
-        None => Reply::Fail(Errno::Einval),
+    if let Some(queue) = queues.get_mut(&id) {
+        queue.withdraw(pid);
     }
 }
 
-/// semctl with SETALL at the set of a number.
-pub(crate) fn set_all_at(sets: &mut Sets, id: Id, values: &[u32]) -> Reply
-    ensures { Changes (λ s. set_all s values.now) sets.old.entries id sets.new.entries result }
+/// A process doesn't wait any more at the set of a number.
+pub(crate) fn leave_set(sets: &mut Sets, id: Id, pid: Pid)
+    ensures { sets.new.entries ≡ changed_at (without_waiter pid) sets.old.entries id }
 {
-    match sets.get_mut(&id) {
-        Some(set) => answer(set.set_all(values)),
-        None => Reply::Fail(Errno::Einval),
+    if let Some(set) = sets.get_mut(&id) {
+        set.withdraw(pid);
     }
 }
 

@@ -1,18 +1,21 @@
 //! All processes by number: who lives, has ended or is gone, and who lists whom.
-ghost use Rattle.std.specs.Prelude.{◌≡◌, ◌∷◌, ◌↔◌, ℕ, [], true, not, map, fold, OnOk, OnErr, IfOk, IsTrue, Some, None, IsSome, IsNone, IfSome, is_some, false, nat_eq};
+ghost use Rattle.std.specs.Prelude.{◌≡◌, ◌<◌, vec_len, vec_capacity, ◌∷◌, ◌↔◌, ℕ, [], true, not, map, fold, OnOk, OnErr, IfOk, IsTrue, Some, None, IsSome, IsNone, IfSome, is_some, false, nat_eq};
 ghost use Rattle.std.specs.Option.{option_copied, option_map};
-ghost use Rattle.std.specs.List.{All, list_any};
+ghost use Rattle.std.specs.List.{All};
 ghost use Rattle.std.specs.Map.{keys_of};
 ghost use Rattle.number_maps.specs.Maps.{get, put, used_with};
-ghost use Rattle.kernel_model.specs.Row.{Free, new_row, wait, lists, matches, first_ended_child, with_ended_child};
-ghost use Rattle.kernel_model.specs.Kernel.{Living, Ended, Gone, alive_in, living_in, parent_in};
-ghost use Rattle.kernel_model.specs.ProcessCalls.{bury, process_after_end, end_under, parent_after_fork, processes_after_fork, processes_after_end, processes_after_wait};
-ghost use Rattle.mono_kernel.specs.Process.{after_change, CanChange, IsPlain};
 ghost use Rattle.number_maps.specs.Rising.{IsRising};
-ghost use Rattle.mono_kernel.specs.Table.{IfLiving, lists_there, ignores_there, parent_number, parent_at, answer_of_wait, table_after};
+ghost use Rattle.kernel_model.specs.Row.{wait, lists};
+ghost use Rattle.waiting_model.specs.Marks.{new_alive, after_reply};
+ghost use Rattle.waiting_model.specs.Kernel.{Living, Ended, Gone, alive_in, living_in, parent_in, change_living};
+ghost use Rattle.waiting_model.specs.ProcessCalls.{bury, bury_found, wakes_of_parent, process_after_end, end_under, found_after_end, parent_after_fork, parent_after_end, processes_after_fork, processes_after_wait};
+ghost use Rattle.mono_kernel.specs.Process.{after_change};
+ghost use Rattle.mono_kernel.specs.Waited.{waited_of};
+ghost use Rattle.mono_kernel.specs.Table.{IfLiving, lists_there, ignores_there, parent_number, parent_at, table_after, IsThere, IsFoundIn, table_after_end, woken_pairs, woken_by_end, listed, with_answers};
 
+use crate::family::Waited;
 use crate::process::{Change, LiveProcess, ProcessCell};
-use pico_base::{EndedChild, Ending, Errno, Memory, Pid};
+use pico_base::{EndedChild, Ending, Errno, Memory, Pid, Reply};
 use std::alloc::Global;
 use std::collections::BTreeMap;
 use std::marker::Model;
@@ -27,7 +30,7 @@ pub(crate) struct Processes {
 
 impl Model for Processes {
     ghost use Rattle.std.specs.Prelude.{ℕ, List};
-    ghost use Rattle.kernel_model.specs.Kernel.{Process};
+    ghost use Rattle.waiting_model.specs.Kernel.{Process};
     ghost use Rattle.mono_kernel.specs.Table.{IsTable};
 
     ghost Value = { List (ℕ × Process) };
@@ -39,8 +42,7 @@ impl Model for Processes {
 
 /// A change of the process that lives at a number.
 fn change_at(cells: &mut BTreeMap<Pid, ProcessCell>, pid: Pid, change: Change)
-    requires lives { IsSome (living_in cells.old.entries pid) }
-    requires can { IfLiving cells.old.entries pid (CanChange change) }
+    requires { IsSome (living_in cells.old.entries pid) }
     ensures changed { IfLiving cells.old.entries pid
         (λ a. cells.new.entries ≡ put cells.old.entries pid (Living (after_change change a))) }
     ensures same_numbers { keys_of cells.new.entries ≡ keys_of cells.old.entries }
@@ -48,6 +50,28 @@ fn change_at(cells: &mut BTreeMap<Pid, ProcessCell>, pid: Pid, change: Change)
 {
     if let Some(cell) = cells.get_mut(&pid) {
         cell.change(change);
+    }
+}
+
+/// A child of the process that lives at a number has ended. Gives what a waitpid finds in which that
+/// waited.
+fn end_child_at(
+    cells: &mut BTreeMap<Pid, ProcessCell>,
+    pid: Pid,
+    child: Pid,
+    ending: Ending,
+) -> Waited
+    requires lives { IsSome (living_in cells.old.entries pid) }
+    requires listed { IfLiving cells.old.entries pid (λ a. lists a.row.family child ≡ true) }
+    ensures found { IfLiving cells.old.entries pid (λ a. waited_of result ≡ found_after_end a child ending) }
+    ensures changed { IfLiving cells.old.entries pid
+        (λ a. cells.new.entries ≡ put cells.old.entries pid (Living (parent_after_end a child ending))) }
+    ensures same_numbers { keys_of cells.new.entries ≡ keys_of cells.old.entries }
+    ensures rising { IsRising cells.new.entries }
+{
+    match cells.get_mut(&pid) {
+        Some(cell) => cell.end_child(child, ending),
+        None => Waited::NotYet,
     }
 }
 
@@ -115,10 +139,42 @@ fn cell_after_end(ignored: bool, ending: Ending) -> ProcessCell
     }
 }
 
+/// Notes who is woken, if anybody is.
+fn noted(mut woken: Vec<(Pid, Reply)>, pair: Option<(Pid, Reply)>) -> Vec<(Pid, Reply)>
+    requires nobody { woken.items ≡ [] }
+    requires room { vec_len woken < vec_capacity woken }
+    ensures { result.items ≡ listed pair }
+{
+    match pair {
+        Some(pair) => {
+            woken.push_reserved(pair);
+            woken
+        }
+        None => woken,
+    }
+}
+
+/// A parent whose waitpid has its reply.
+fn woken_parent(parent: Pid, found: &Waited) -> Option<(Pid, Reply)>
+    ensures { listed result ≡ woken_pairs (wakes_of_parent parent (waited_of found.now)) }
+{
+    match found {
+        Waited::Found(child) => Some((
+            parent,
+            Reply::Child {
+                pid: child.pid,
+                ending: child.ending,
+            },
+        )),
+        Waited::NotYet => None,
+        Waited::NoChild => Some((parent, Reply::Fail(Errno::Echild))),
+    }
+}
+
 impl Processes {
     /// The table with process 1 alone, which lives.
     pub(crate) fn new(alloc: Global) -> Result<Processes, Memory>
-        ensures { IfOk result (λ ps. ps ≡ (1, Living (record { row = new_row; allowance = Free })) ∷ []) }
+        ensures { IfOk result (λ ps. ps ≡ (1, Living new_alive) ∷ []) }
     {
         let mut cells = BTreeMap::new(alloc);
         cells.insert(Pid(1), ProcessCell::living(LiveProcess::new(alloc)))?;
@@ -152,26 +208,57 @@ impl Processes {
         }
     }
 
-    /// Makes a change that adds no child.
+    /// Makes a change of a living process.
     pub(crate) fn change(&mut self, pid: Pid, change: Change)
-        requires lives { IsSome (living_in self.old pid) }
-        requires plain { IsPlain change }
+        requires { IsSome (living_in self.old pid) }
         ensures changed { IfLiving self.old pid (λ a. self.new ≡ put self.old pid (Living (after_change change a))) }
         ensures same_numbers { keys_of self.new ≡ keys_of self.old }
     {
         change_at(&mut self.cells, pid, change);
     }
 
-    /// A child has ended: it is listed as ended, or forgotten.
-    fn end_child(&mut self, parent: Pid, child: Pid, ending: Ending)
+    /// Makes a change, if the process lives.
+    pub(crate) fn change_there(&mut self, pid: Pid, change: Change)
+        ensures changed { self.new ≡ change_living self.old pid (λ a. after_change change a) }
+        ensures same_numbers { keys_of self.new ≡ keys_of self.old }
+    {
+        if self.is_living(pid) {
+            self.change(pid, change);
+        }
+    }
+
+    /// Whether the process lives.
+    fn is_living(&self, pid: Pid) -> bool
+        ensures lives { result ≡ is_some (living_in self.now pid) }
+        ensures rising { IsRising self.now }
+    {
+        let _ = &self.cells;
+        self.alive(pid).is_some()
+    }
+
+    /// Each of those who are woken has its reply, and doesn't wait any more.
+    pub(crate) fn answer(&mut self, woken: &[(Pid, Reply)])
+        ensures answered { self.new ≡ with_answers self.old woken.now }
+        ensures same_numbers { keys_of self.new ≡ keys_of self.old }
+    {
+        for pair in woken {
+            self.change_there(pair.0, Change::Answer);
+        }
+    }
+
+    /// A child has ended: it is listed as ended, or forgotten. Gives what a waitpid finds in which the
+    /// parent waited.
+    fn end_child(&mut self, parent: Pid, child: Pid, ending: Ending) -> Waited
         requires lives { IsSome (living_in self.old parent) }
         requires listed { IfLiving self.old parent (λ a. lists a.row.family child ≡ true) }
         requires ended { living_in self.old child ≡ None }
+        ensures found { IfLiving self.old parent (λ a. waited_of result ≡ found_after_end a child ending) }
+        ensures there { IsFoundIn self.old parent (waited_of result) }
         ensures changed { IfLiving self.old parent
-            (λ a. self.new ≡ put self.old parent (Living (with_ended_child a child ending))) }
+            (λ a. self.new ≡ put self.old parent (Living (parent_after_end a child ending))) }
         ensures same_numbers { keys_of self.new ≡ keys_of self.old }
     {
-        change_at(&mut self.cells, parent, Change::EndChild { child, ending });
+        end_child_at(&mut self.cells, parent, child, ending)
     }
 
     /// A process that is there lives no longer.
@@ -222,19 +309,34 @@ impl Processes {
     }
 
     /// A process leaves: its parent, if there is one, keeps its ending, unless it ignores its children.
-    fn leave(&mut self, pid: Pid, ending: Ending, parent: Option<Pid>)
+    /// Where the parent waits for it, the parent is woken.
+    fn leave(&mut self, pid: Pid, ending: Ending, parent: Option<Pid>) -> Option<(Pid, Reply)>
         requires there { IsSome (get self.old pid) }
         requires listed { IfSome parent (λ p. (lists_there self.old p pid ≡ true) × (nat_eq p pid ≡ false)) }
         ensures left { self.new ≡ end_under self.old pid ending (parent_at self.old parent) }
+        ensures woken { listed result ≡ woken_by_end pid ending (parent_at self.old parent) }
         ensures same_numbers { keys_of self.new ≡ keys_of self.old }
     {
         let Some(parent) = parent else {
             self.settle(pid, ProcessCell::gone());
-            return;
+            return None;
         };
         let ignored = self.ignores_children(parent);
         self.settle(pid, cell_after_end(ignored, ending));
-        self.end_child(parent, pid, ending);
+        let found = self.end_child(parent, pid, ending);
+        self.bury_found(&found);
+        woken_parent(parent, &found)
+    }
+
+    /// The child that was found is gone.
+    fn bury_found(&mut self, found: &Waited)
+        requires { IsThere self.old (waited_of found.now) }
+        ensures buried { self.new ≡ bury_found self.old (waited_of found.now) }
+        ensures same_numbers { keys_of self.new ≡ keys_of self.old }
+    {
+        if let Waited::Found(child) = found {
+            self.settle(child.pid, ProcessCell::gone());
+        }
     }
 
     /// Whether the process ignores its ended children. One that doesn't live does.
@@ -262,42 +364,37 @@ impl Processes {
         }
     }
 
-    /// The end of a process (exit).
-    pub(crate) fn end(&mut self, alloc: Global, pid: Pid, ending: Ending) -> Result<(), Memory>
+    /// The end of a process (exit). Gives the parent, if it waited and is woken.
+    pub(crate) fn end(
+        &mut self,
+        alloc: Global,
+        pid: Pid,
+        ending: Ending,
+    ) -> Result<Vec<(Pid, Reply)>, Memory>
         requires { IsSome (living_in self.old pid) }
-        ensures ended { OnOk result
-            (IfLiving self.old pid (λ a. self.new ≡ processes_after_end self.old pid a ending)) }
+        ensures ended { OnOk result (IfLiving self.old pid (λ a. self.new ≡ table_after_end self.old pid a ending)) }
+        ensures woken { IfOk result (λ w. w.items ≡ woken_by_end pid ending (parent_in pid self.old)) }
         ensures err { OnErr result (self.new ≡ self.old) }
         ensures same_numbers { keys_of self.new ≡ keys_of self.old }
     {
         let children = self.ended_children(alloc, pid)?;
+        let woken = Vec::with_capacity(alloc, 1)?;
         let parent = self.parent_of(pid);
         self.bury(children.as_slice());
-        self.leave(pid, ending, parent);
-        Ok(())
+        let pair = self.leave(pid, ending, parent);
+        Ok(noted(woken, pair))
     }
 
-    /// The first ended child that is waited for, with its ending.
-    fn ended_child(&self, pid: Pid, which: &Option<Pid>) -> Option<EndedChild>
+    /// What waitpid finds.
+    fn find(&self, pid: Pid, which: &Option<Pid>) -> Waited
         requires { IsSome (living_in self.now pid) }
-        ensures child { IfLiving self.now pid (λ a. result ≡ first_ended_child which.now a.row.family.ended) }
-        ensures there { IfSome result (λ e. is_some (get self.now e.pid) ≡ true) }
+        ensures found { IfLiving self.now pid (λ a. waited_of result ≡ wait a.row.family which.now) }
+        ensures there { IsThere self.now (waited_of result) }
     {
         let _ = &self.cells;
         match self.alive(pid) {
-            Some(alive) => alive.first_ended(which),
-            None => None,
-        }
-    }
-
-    /// Whether a living child is waited for.
-    fn awaits(&self, pid: Pid, which: &Option<Pid>) -> bool
-        requires { IsSome (living_in self.now pid) }
-        ensures { IfLiving self.now pid (λ a. result ≡ list_any (matches which.now) a.row.family.living) }
-    {
-        match self.alive(pid) {
-            Some(alive) => alive.awaits(which),
-            None => false,
+            Some(alive) => alive.wait(which),
+            None => Waited::NotYet,
         }
     }
 
@@ -312,21 +409,27 @@ impl Processes {
         self.settle(child, ProcessCell::gone());
     }
 
-    /// waitpid without waiting: an ended child, none yet, or ECHILD.
-    pub(crate) fn wait(&mut self, pid: Pid, which: Option<Pid>) -> Result<Option<EndedChild>, Errno>
+    /// waitpid without waiting: an ended child, which is gone then, none yet, or no child.
+    pub(crate) fn wait(&mut self, pid: Pid, which: &Option<Pid>) -> Waited
         requires { IsSome (living_in self.old pid) }
-        ensures answer { IfLiving self.old pid (λ a. result ≡ answer_of_wait (wait a.row.family which)) }
-        ensures table { IfLiving self.old pid (λ a. self.new ≡ table_after self.old pid a (wait a.row.family which)) }
+        ensures found { IfLiving self.old pid (λ a. waited_of result ≡ wait a.row.family which.now) }
+        ensures table { IfLiving self.old pid (λ a. self.new ≡ table_after self.old pid a (waited_of result)) }
         ensures same_numbers { keys_of self.new ≡ keys_of self.old }
     {
-        if let Some(EndedChild { pid: child, ending }) = self.ended_child(pid, &which) {
-            self.reap(pid, child);
-            return Ok(Some(EndedChild { pid: child, ending }));
-        }
-        if self.awaits(pid, &which) {
-            Ok(None)
-        } else {
-            Err(Errno::Echild)
+        let found = self.find(pid, which);
+        self.reap_found(pid, &found);
+        found
+    }
+
+    /// The ended child that was found is gone.
+    fn reap_found(&mut self, pid: Pid, found: &Waited)
+        requires lives { IsSome (living_in self.old pid) }
+        requires there { IsThere self.old (waited_of found.now) }
+        ensures table { IfLiving self.old pid (λ a. self.new ≡ table_after self.old pid a (waited_of found.now)) }
+        ensures same_numbers { keys_of self.new ≡ keys_of self.old }
+    {
+        if let Waited::Found(child) = found {
+            self.reap(pid, child.pid);
         }
     }
 

@@ -1,9 +1,13 @@
 //! One message queue: its messages in order, and what a type selects.
-ghost use Rattle.std.specs.Prelude.{◌≡◌, ◌≤◌, ◌+◌, ◌&&◌, nat_le, nat_lt, length, take, drop, MatchResult, Ok, Err, IfOk, OnErr};
+ghost use Rattle.std.specs.Prelude.{◌≡◌, ◌≤◌, ◌+◌, ◌&&◌, true, is_some, nat_le, nat_lt, length, take, drop, MatchResult, Some, Ok, Err, OnOk};
 ghost use Rattle.std.specs.Ordering.{int_eq};
 ghost use Rattle.kernel_model.specs.Queue.{empty_queue, bytes_of, bytes_in, max_messages, lower_of, lowest_upto, first_of, select, send, receive, set_qbytes, stat};
+ghost use Rattle.answer_laws.specs.Answers.{done_reply};
+ghost use Rattle.waiting_model.specs.Waiters.{attempt};
+ghost use Rattle.waiting_model.specs.Queue.{try_queue};
+ghost use Rattle.mono_kernel.specs.Queue.{can_send, can_receive, reply_of_message};
 
-use pico_base::{Bytes, Errno, Memory, Pid, Reply};
+use pico_base::{Bytes, Call, Errno, Memory, Pid, Reply};
 use std::alloc::Global;
 use std::collections::VecDeque;
 use std::marker::Model;
@@ -74,7 +78,8 @@ impl Message {
     }
 }
 
-/// A message queue. The bytes of its texts are counted beside it.
+/// A message queue. The bytes of its texts are counted beside it, and contracts also see for how many
+/// further messages there is memory.
 #[derive(Drop)]
 pub(crate) struct MessageQueue {
     messages: VecDeque<Message>,
@@ -85,17 +90,22 @@ pub(crate) struct MessageQueue {
 }
 
 impl Model for MessageQueue {
-    ghost use Rattle.kernel_model.specs.Queue.{Queue};
+    ghost use Rattle.std.specs.Prelude.{◌-◌};
+    ghost use Rattle.std.specs.VecDeque.{deque_len, deque_capacity};
+    ghost use Rattle.mono_kernel.specs.Stored.{Stored};
     ghost use Rattle.mono_kernel.specs.Counted.{IsCounted};
 
-    ghost Value = { Queue };
+    ghost Value = { Stored };
 
     ghost view = { λ q. record {
-      messages = q.messages.items;
-      qbytes = q.qbytes;
-      last_sender =
-          q.last_sender;
-      last_receiver = q.last_receiver;
+      queue = record {
+        messages = q.messages.items;
+        qbytes = q.qbytes;
+        last_sender =
+            q.last_sender;
+        last_receiver = q.last_receiver;
+      };
+      room = deque_capacity q.messages - deque_len q.messages;
     } };
 
     ghost invariant = { λ q. IsCounted q.messages.items q.bytes q.qbytes };
@@ -151,10 +161,30 @@ fn selected_place(messages: &VecDeque<Message>, class: i32) -> Option<usize>
     }
 }
 
+/// The reply to a change.
+fn answer(outcome: Result<(), Errno>) -> Reply
+    ensures { result ≡ done_reply outcome }
+{
+    match outcome {
+        Ok(()) => Reply::Num(0),
+        Err(errno) => Reply::Fail(errno),
+    }
+}
+
+/// The reply to msgrcv.
+fn received(outcome: Result<Message, Errno>) -> Reply
+    ensures { result ≡ reply_of_message outcome }
+{
+    match outcome {
+        Ok(message) => message.into_reply(),
+        Err(errno) => Reply::Fail(errno),
+    }
+}
+
 impl MessageQueue {
     /// An empty queue. It takes no memory.
     pub(crate) fn new(alloc: Global) -> MessageQueue
-        ensures { result ≡ empty_queue }
+        ensures { result.queue ≡ empty_queue }
     {
         MessageQueue {
             messages: VecDeque::new(alloc),
@@ -165,9 +195,19 @@ impl MessageQueue {
         }
     }
 
+    /// Memory for this many further messages.
+    pub(crate) fn reserve(&mut self, count: usize) -> Result<(), Memory>
+        ensures same { self.new.queue ≡ self.old.queue }
+        ensures ok { OnOk result (count ≤ self.new.room) }
+        ensures no_less { self.old.room ≤ self.new.room }
+    {
+        self.messages.reserve(count)?;
+        Ok(())
+    }
+
     /// msgctl with IPC_STAT.
-    pub(crate) fn stat(&self) -> Reply
-        ensures { result ≡ stat self.now }
+    fn stat(&self) -> Reply
+        ensures { result ≡ stat self.now.queue }
     {
         Reply::Stat {
             qnum: self.messages.len() as u32,
@@ -178,9 +218,10 @@ impl MessageQueue {
     }
 
     /// msgctl with IPC_SET: EINVAL above the limit.
-    pub(crate) fn set_qbytes(&mut self, qbytes: u32) -> Result<(), Errno>
-        ensures { MatchResult result (λ _. set_qbytes self.old qbytes ≡ Ok self.new)
-            (λ e. (set_qbytes self.old qbytes ≡ Err e) × (self.new ≡ self.old)) }
+    fn set_qbytes(&mut self, qbytes: u32) -> Result<(), Errno>
+        ensures set { MatchResult result (λ _. set_qbytes self.old.queue qbytes ≡ Ok self.new.queue)
+            (λ e. (set_qbytes self.old.queue qbytes ≡ Err e) × (self.new.queue ≡ self.old.queue)) }
+        ensures room { self.new.room ≡ self.old.room }
     {
         if qbytes > MAX_QUEUE_BYTES {
             return Err(Errno::Einval);
@@ -191,54 +232,40 @@ impl MessageQueue {
 
     /// Whether there is room for a text of this length.
     fn has_room(&self, len: usize) -> bool
-        ensures { result ≡ (nat_le (bytes_in self.now + len) self.now.qbytes
-            && nat_lt (length self.now.messages) max_messages) }
+        ensures { result ≡ (nat_le (bytes_in self.now.queue + len) self.now.queue.qbytes
+            && nat_lt (length self.now.queue.messages) max_messages) }
     {
         self.qbytes as usize >= self.bytes
             && len <= self.qbytes as usize - self.bytes
             && self.messages.len() < MAX_MESSAGES
     }
 
-    /// msgsnd: EINVAL for a type below 1 and a text above the limit, EAGAIN where there is no room.
-    pub(crate) fn send(
-        &mut self,
-        alloc: Global,
-        pid: Pid,
-        class: i32,
-        text: &Bytes,
-    ) -> Result<Result<(), Errno>, Memory>
-        ensures ok { IfOk result (λ answer. MatchResult answer
-            (λ _. send self.old pid class text.now ≡ Ok self.new)
-            (λ e. (send self.old pid class text.now ≡ Err e) × (self.new ≡ self.old))) }
-        ensures err { OnErr result (self.new ≡ self.old) }
+    /// msgsnd, where there is memory for the message: EINVAL for a type below 1 and a text above the
+    /// limit, EAGAIN where there is no room.
+    fn send(&mut self, pid: Pid, class: i32, text: Bytes) -> Result<(), Errno>
+        requires { 1 ≤ self.old.room }
+        ensures sent { MatchResult result (λ _. send self.old.queue pid class text ≡ Ok self.new.queue)
+            (λ e. (send self.old.queue pid class text ≡ Err e) × (self.new.queue ≡ self.old.queue)) }
+        ensures room { self.old.room ≤ self.new.room + 1 }
     {
         if class < 1 || text.len() > MAX_TEXT {
-            return Ok(Err(Errno::Einval));
+            return Err(Errno::Einval);
         }
         if !self.has_room(text.len()) {
-            return Ok(Err(Errno::Eagain));
+            return Err(Errno::Eagain);
         }
-        let message = Message {
-            class,
-            text: text.try_copy(alloc)?,
-        };
-        self.messages.push_back(message)?;
         self.bytes += text.len();
+        self.messages.push_back_reserved(Message { class, text });
         self.last_sender = pid;
-        Ok(Ok(()))
+        Ok(())
     }
 
     /// msgrcv: ENOMSG where no message is selected, E2BIG for a text above the size asked.
-    pub(crate) fn receive(
-        &mut self,
-        pid: Pid,
-        class: i32,
-        size: u32,
-        noerror: bool,
-    ) -> Result<Message, Errno>
-        ensures { MatchResult result
-            (λ m. receive self.old pid class size noerror ≡ Ok (record { queue = self.new; message = m }))
-            (λ e. (receive self.old pid class size noerror ≡ Err e) × (self.new ≡ self.old)) }
+    fn receive(&mut self, pid: Pid, class: i32, size: u32, noerror: bool) -> Result<Message, Errno>
+        ensures received { MatchResult result
+            (λ m. receive self.old.queue pid class size noerror ≡ Ok (record { queue = self.new.queue; message = m }))
+            (λ e. (receive self.old.queue pid class size noerror ≡ Err e) × (self.new.queue ≡ self.old.queue)) }
+        ensures room { self.old.room ≤ self.new.room }
     {
         let Some(place) = selected_place(&self.messages, class) else {
             return Err(Errno::Enomsg);
@@ -257,6 +284,60 @@ impl MessageQueue {
                 Ok(message.cut(size as usize))
             }
             None => Err(Errno::Enomsg),
+        }
+    }
+
+    /// Whether a send of a text of this length is accepted, or refused for good.
+    fn can_send(&self, class: i32, len: usize) -> bool
+        ensures { result ≡ can_send self.now.queue class len }
+    {
+        class < 1 || len > MAX_TEXT || self.has_room(len)
+    }
+
+    /// Whether a message is selected.
+    fn can_receive(&self, class: i32) -> bool
+        ensures { result ≡ can_receive self.now.queue class }
+    {
+        match selected_place(&self.messages, class) {
+            Some(place) => place < self.messages.len(),
+            None => false,
+        }
+    }
+
+    /// Whether a call has its reply at once, and needn't wait.
+    pub(crate) fn can_go(&self, pid: Pid, call: &Call) -> bool
+        ensures { result ≡ is_some (try_queue self.now.queue pid call.now) }
+    {
+        match call {
+            Call::MsgSnd {
+                class,
+                text,
+                nowait,
+                ..
+            } => *nowait || self.can_send(*class, text.len()),
+            Call::MsgRcv { class, nowait, .. } => *nowait || self.can_receive(*class),
+            _ => true,
+        }
+    }
+
+    /// Carries out a call that needn't wait, where there is memory for one message more.
+    pub(crate) fn perform(&mut self, pid: Pid, call: Call) -> Reply
+        requires goes { is_some (try_queue self.old.queue pid call) ≡ true }
+        requires room { 1 ≤ self.old.room }
+        ensures done { try_queue self.old.queue pid call ≡ Some (attempt self.new.queue result) }
+        ensures room { self.old.room ≤ self.new.room + 1 }
+    {
+        match call {
+            Call::MsgSnd { class, text, .. } => answer(self.send(pid, class, text)),
+            Call::MsgRcv {
+                class,
+                size,
+                noerror,
+                ..
+            } => received(self.receive(pid, class, size, noerror)),
+            Call::MsgStat { .. } => self.stat(),
+            Call::MsgSet { qbytes, .. } => answer(self.set_qbytes(qbytes)),
+            _ => Reply::Fail(Errno::Einval),
         }
     }
 }

@@ -2,6 +2,7 @@
 ghost use Rattle.std.specs.Prelude.{◌≡◌, false, fold, MatchResult, Ok, Err};
 ghost use Rattle.pico_base.specs.Signal.{at, put_at, everywhere};
 ghost use Rattle.kernel_model.specs.Signals.{new_signals, inherit, raise, arrive, deliver, discards, with_action, act_on, with_mask, new_mask};
+ghost use Rattle.waiting_model.specs.Marks.{strikes};
 ghost use Rattle.mono_kernel.specs.Masks.{mask_bit, mask_with_bit};
 
 use pico_base::{Act, Errno, How, PerSignal, SIGNALS, Sig, SigArg, SigSet};
@@ -138,6 +139,16 @@ impl SignalState {
             }
             Act::Dfl | Act::Ign => self.doom = Some(sig),
         }
+    }
+
+    /// Whether the signal strikes: the process isn't doomed, and the signal is neither discarded nor held
+    /// off by the mask.
+    pub(crate) fn is_struck_by(&self, sig: Sig) -> bool
+        ensures { result ≡ strikes self.now sig }
+    {
+        self.doom.is_none()
+            && (sig == Sig::Kill
+                || (!is_discarded(self.actions.get(sig), sig) && !self.mask.has(sig)))
     }
 
     /// The signal is raised (POSIX.1-2017: kill, and the end of a child).

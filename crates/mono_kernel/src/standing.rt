@@ -1,4 +1,4 @@
-//! How a process stands: unknown, living, doomed, ended or gone.
+//! How a process stands: unknown, living, doomed, waiting, ended or gone.
 ghost use Rattle.std.specs.Prelude.{◌≡◌};
 ghost use Rattle.std.specs.Option.{option_copied};
 ghost use Rattle.mono_kernel.specs.Standing.{standing_of, standing_alive};
@@ -11,11 +11,13 @@ use pico_base::Sig;
 pub enum Standing {
     /// There is no process of this number.
     Unknown,
-    /// It lives, and no signal will end it yet.
+    /// It lives and doesn't wait, and no signal will end it yet.
     Living,
-    /// It lives, and will end by this signal. `more` counts the entries that it may still have before
+    /// It lives and doesn't wait, and will end by this signal. `more` counts the entries that it may still have before
     /// that, 1 or 0.
     Doomed { sig: Sig, more: u8 },
+    /// It waits, and will end by this signal, if there is one.
+    Parked { doom: Option<Sig> },
     /// It has ended, and is kept for its parent.
     Ended,
     /// It has ended, and nobody waits for it any more.
@@ -26,7 +28,11 @@ pub enum Standing {
 fn of_alive(alive: &LiveProcess) -> Standing
     ensures { result ≡ standing_alive alive.now }
 {
-    match alive.doom() {
+    let doom = alive.doom();
+    if alive.is_parked() {
+        return Standing::Parked { doom };
+    }
+    match doom {
         None => Standing::Living,
         Some(sig) => Standing::Doomed {
             sig,

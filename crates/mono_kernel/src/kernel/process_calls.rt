@@ -1,34 +1,62 @@
 //! The calls on processes and signals (fork, exit, waitpid, kill, sigaction, sigprocmask).
-ghost use Rattle.std.specs.Prelude.{◌≡◌, IsSome, IfSome, Some};
+ghost use Rattle.std.specs.Prelude.{◌≡◌, IsSome, IfSome, IfOk, OnErr, Some, is_some, ◌↔◌, true};
 ghost use Rattle.pico_base.specs.Signal.{at};
+ghost use Rattle.pico_base.specs.declared.call.Call.TheVariants.{WaitPid};
 ghost use Rattle.kernel_model.specs.Signals.{act_on, with_mask};
 ghost use Rattle.kernel_model.specs.Row.{wait};
-ghost use Rattle.kernel_model.specs.Kernel.{living_at, with_alive};
-ghost use Rattle.kernel_model.specs.ProcessCalls.{fork_effect, end_process, reap_child, action_effect, kill, with_signals};
 ghost use Rattle.kernel_model.specs.Effect.{is_fresh};
-ghost use Rattle.kernel_model.specs.Transition.{finish_call};
-ghost use Rattle.mono_kernel.specs.Process.{after_change, IsPlain};
-ghost use Rattle.mono_kernel.specs.Answers.{Answers, signalled_kernel};
+ghost use Rattle.waiting_model.specs.Kernel.{living_at, with_alive};
+ghost use Rattle.waiting_model.specs.Effect.{replying};
+ghost use Rattle.waiting_model.specs.ProcessCalls.{fork_effect, end_process, reap_child, action_effect, kill, with_signals};
+ghost use Rattle.waiting_model.specs.Transition.{allowance_after};
+ghost use Rattle.mono_kernel.specs.Process.{after_change};
+ghost use Rattle.mono_kernel.specs.Answers.{Answers, IsDone, Replies, signalled_kernel};
+ghost use Rattle.mono_kernel.specs.Waited.{waited_of, is_not_yet, reply_of_wait};
 
+use crate::done::Done;
+use crate::family::Waited;
 use crate::fault::CallFault;
 use crate::kernel::Kernel;
 use crate::process::Change;
 use crate::signals::SignalState;
-use pico_base::{Act, Ending, Errno, How, Pid, Reply, Sig, SigArg, SigSet};
+use pico_base::{Act, Call, Ending, Errno, How, Pid, Reply, Sequence, Sig, SigArg, SigSet};
+
+/// Whether children that match only live.
+fn is_not_yet(found: &Waited) -> bool
+    ensures { result ≡ is_not_yet (waited_of found.now) }
+{
+    match found {
+        Waited::NotYet => true,
+        Waited::Found(_) | Waited::NoChild => false,
+    }
+}
+
+/// The reply of a waitpid that needn't wait.
+fn reply_of_wait(found: &Waited) -> Reply
+    ensures { result ≡ reply_of_wait (waited_of found.now) }
+{
+    match found {
+        Waited::Found(child) => Reply::Child {
+            pid: child.pid,
+            ending: child.ending,
+        },
+        Waited::NotYet => Reply::Num(0),
+        Waited::NoChild => Reply::Fail(Errno::Echild),
+    }
+}
 
 /// The calls on processes and signals.
 impl Kernel {
-    /// Makes a change of a living process that moves no child.
-    pub(super) fn change(&mut self, pid: Pid, change: Change)
-        requires lives { IsSome (living_at self.old pid) }
-        requires plain { IsPlain change }
+    /// Makes a change of a living process.
+    fn change(&mut self, pid: Pid, change: Change)
+        requires { IsSome (living_at self.old pid) }
         ensures { IfSome (living_at self.old pid) (λ a. self.new ≡ with_alive self.old pid (after_change change a)) }
     {
         self.processes.change(pid, change);
     }
 
     /// Whether a process may take this number.
-    pub(super) fn is_new_process(&self, pid: Pid) -> bool
+    fn is_new_process(&self, pid: Pid) -> bool
         ensures { result ≡ is_fresh self.now.used_processes pid }
     {
         pid.0 > 0 && !self.processes.is_there(pid)
@@ -38,7 +66,7 @@ impl Kernel {
     pub(super) fn fork(&mut self, pid: Pid, chosen: u32) -> Result<Reply, CallFault>
         requires { IsSome (living_at self.old pid) }
         ensures { IfSome (living_at self.old pid)
-            (λ a. Answers (fork_effect self.old pid a chosen) result self.old self.new) }
+            (λ a. Replies (fork_effect self.old pid a chosen) result self.old self.new) }
     {
         if !self.is_new_process(Pid(chosen)) {
             return Err(CallFault::NotAllowed);
@@ -48,29 +76,34 @@ impl Kernel {
     }
 
     /// exit, and the end by a signal.
-    pub(super) fn end(&mut self, pid: Pid, ending: Ending) -> Result<Reply, CallFault>
+    pub(super) fn end(&mut self, pid: Pid, ending: Ending) -> Result<Done, CallFault>
         requires { IsSome (living_at self.old pid) }
         ensures { IfSome (living_at self.old pid)
-            (λ a. Answers (Some (end_process self.old pid a ending)) result self.old self.new) }
+            (λ a. (call : Call) → Answers (Some (end_process self.old pid a ending)) call result self.old self.new) }
     {
-        self.processes.end(self.alloc, pid, ending)?;
-        Ok(Reply::Ended)
+        let woken = self.processes.end(self.alloc, pid, ending)?;
+        Ok(Done::Replies {
+            reply: Reply::Ended,
+            woken: Sequence::from_vec(woken),
+        })
     }
 
-    /// waitpid: ECHILD where there is no such child.
-    pub(super) fn wait(&mut self, pid: Pid, which: Option<Pid>) -> Reply
+    /// waitpid: ECHILD where there is no such child. Where such children only live it waits, or replies
+    /// 0 with WNOHANG.
+    pub(super) fn wait(&mut self, pid: Pid, which: &Option<Pid>, nohang: bool) -> Done
         requires { IsSome (living_at self.old pid) }
         ensures { IfSome (living_at self.old pid)
-            (λ a. reap_child self.old pid a (wait a.row.family which) ≡ record { kernel = self.new; reply = result }) }
+            (λ a. IsDone (reap_child self.old pid a nohang (wait a.row.family which.now)) (WaitPid which.now nohang)
+            self.new result) }
     {
-        match self.processes.wait(pid, which) {
-            Ok(Some(child)) => Reply::Child {
-                pid: child.pid,
-                ending: child.ending,
-            },
-            Ok(None) => Reply::Num(0),
-            Err(errno) => Reply::Fail(errno),
+        let found = self.processes.wait(pid, which);
+        if !nohang && is_not_yet(&found) {
+            return Done::Parks(Call::WaitPid {
+                child: *which,
+                nohang,
+            });
         }
+        Done::alone(self.alloc, reply_of_wait(&found))
     }
 
     /// sigaction: EINVAL for KILL, 0 and a number that is no signal's.
@@ -78,7 +111,7 @@ impl Kernel {
         requires { IsSome (living_at self.old pid) }
         ensures { IfSome (living_at self.old pid)
             (λ a. action_effect self.old pid a (act_on a.row.signals sig act)
-            ≡ record { kernel = self.new; reply = result }) }
+            ≡ replying self.new result) }
     {
         let Some(alive) = self.processes.alive(pid) else {
             return Reply::Num(0);
@@ -133,7 +166,7 @@ impl Kernel {
 
     /// kill: EINVAL for a number that is no signal's, then ESRCH where there is no such process.
     pub(super) fn kill(&mut self, caller: Pid, pid: Pid, sig: SigArg) -> Reply
-        ensures { kill self.old caller pid sig ≡ record { kernel = self.new; reply = result } }
+        ensures { kill self.old caller pid sig ≡ replying self.new result }
     {
         if sig == SigArg::Bad {
             return Reply::Fail(Errno::Einval);
@@ -153,7 +186,7 @@ impl Kernel {
     }
 
     /// A signal arrives at a living process: its own, or another's.
-    pub(super) fn signal(&mut self, caller: Pid, pid: Pid, mut signals: SignalState, sig: Sig)
+    fn signal(&mut self, caller: Pid, pid: Pid, mut signals: SignalState, sig: Sig)
         requires lives { IsSome (living_at self.old pid) }
         requires its { IfSome (living_at self.old pid) (λ a. signals ≡ a.row.signals) }
         ensures { IfSome (living_at self.old pid) (λ a. self.new ≡ signalled_kernel self.old caller pid a sig) }
@@ -167,8 +200,8 @@ impl Kernel {
     }
 
     /// A doomed process that lives on after an entry of its own has nothing left but its ending.
-    pub(super) fn finish(&mut self, pid: Pid)
-        ensures { self.new ≡ finish_call self.old pid (living_at self.old pid) }
+    pub(super) fn spend(&mut self, pid: Pid)
+        ensures { self.new ≡ allowance_after self.old pid (living_at self.old pid) }
     {
         let doomed = match self.processes.alive(pid) {
             Some(alive) => alive.doom().is_some(),

@@ -1,17 +1,21 @@
 //! The calls on message queues (msgget, msgsnd, msgrcv, msgctl).
-ghost use Rattle.std.specs.Prelude.{◌≡◌, None, IfOk, OnErr};
+ghost use Rattle.std.specs.Prelude.{◌≡◌, Some, None};
 ghost use Rattle.number_maps.specs.Maps.{get};
-ghost use Rattle.kernel_model.specs.Queue.{send, receive, set_qbytes};
-ghost use Rattle.kernel_model.specs.Effect.{is_fresh, on_named};
-ghost use Rattle.kernel_model.specs.QueueCalls.{new_queue, get_queue, change_queue, receive_effect, stat_effect, remove_queue};
+ghost use Rattle.kernel_model.specs.Effect.{is_fresh};
+ghost use Rattle.waiting_model.specs.Waiters.{waiter};
+ghost use Rattle.waiting_model.specs.Effect.{on_named};
+ghost use Rattle.waiting_model.specs.QueueCalls.{new_queue, get_queue, on_queue, remove_queue};
 ghost use Rattle.mono_kernel.specs.Names.{keys_with, bound_to};
-ghost use Rattle.mono_kernel.specs.Answers.{Answers};
+ghost use Rattle.mono_kernel.specs.Answers.{Answers, Replies};
+ghost use Rattle.mono_kernel.specs.Done.{woken_of};
+ghost use Rattle.mono_kernel.specs.Table.{with_answers};
 
+use crate::awaited_queue::AwaitedQueue;
+use crate::done::Done;
 use crate::fault::CallFault;
 use crate::kernel::Kernel;
-use crate::maps::{receive_at, remove_at, send_at, set_qbytes_at};
-use crate::queue::MessageQueue;
-use pico_base::{Bytes, Errno, Id, Key, Memory, Pid, Reply};
+use crate::maps::{call_queue, remove_at};
+use pico_base::{Call, Errno, Id, Key, Pid, Reply, Sequence};
 
 /// The calls on message queues.
 impl Kernel {
@@ -25,13 +29,13 @@ impl Kernel {
     /// A new queue, with a key if there is one. NotAllowed where the number is 0 or used.
     fn new_queue(&mut self, key: &Option<Key>, chosen: &Id) -> Result<Reply, CallFault>
         requires { bound_to self.old.queue_keys key.now ≡ None }
-        ensures { Answers (new_queue self.old (keys_with self.old.queue_keys key.now chosen.now) chosen.now) result
+        ensures { Replies (new_queue self.old (keys_with self.old.queue_keys key.now chosen.now) chosen.now) result
             self.old self.new }
     {
         if !self.is_new_queue(chosen) {
             return Err(CallFault::NotAllowed);
         }
-        let queue = MessageQueue::new(self.alloc);
+        let queue = AwaitedQueue::new(self.alloc);
         self.queue_names.add(&mut self.queues, chosen, key, queue)?;
         Ok(Reply::Num(chosen.0))
     }
@@ -45,7 +49,7 @@ impl Kernel {
         excl: bool,
         chosen: u32,
     ) -> Result<Reply, CallFault>
-        ensures { Answers (get_queue self.old key create excl chosen) result self.old self.new }
+        ensures { Replies (get_queue self.old key create excl chosen) result self.old self.new }
     {
         let Some(key) = key else {
             return self.new_queue(&None, &Id(chosen));
@@ -63,67 +67,40 @@ impl Kernel {
         self.new_queue(&Some(key), &Id(chosen))
     }
 
-    /// msgsnd: EINVAL or EAGAIN.
-    pub(super) fn send(
-        &mut self,
-        pid: Pid,
-        id: Id,
-        class: i32,
-        text: &Bytes,
-    ) -> Result<Reply, Memory>
-        ensures ok { IfOk result
-            (λ reply. on_named self.old (get self.old.queues id)
-            (λ q. change_queue self.old id (send q pid class text.now))
-            ≡ record { kernel = self.new; reply = reply }) }
-        ensures err { OnErr result (self.new ≡ self.old) }
+    /// msgsnd, msgrcv, and msgctl with IPC_STAT and IPC_SET: EINVAL where there is no such queue.
+    pub(super) fn on_queue(&mut self, pid: Pid, id: Id, call: &Call) -> Result<Done, CallFault>
+        ensures { Answers (Some (on_queue self.old id (waiter pid call.now))) call.now result self.old self.new }
     {
-        send_at(self.alloc, &mut self.queues, id, pid, class, text)
+        let done = call_queue(self.alloc, &mut self.queues, id, pid, call)?;
+        self.wake(&done);
+        Ok(done)
     }
 
-    /// msgrcv: EINVAL, ENOMSG or E2BIG.
-    pub(super) fn receive(
-        &mut self,
-        pid: Pid,
-        id: Id,
-        class: i32,
-        size: u32,
-        noerror: bool,
-    ) -> Reply
-        ensures { on_named self.old (get self.old.queues id)
-            (λ q. receive_effect self.old id (receive q pid class size noerror))
-            ≡ record { kernel = self.new; reply = result } }
+    /// Those who are woken have their replies.
+    pub(super) fn wake(&mut self, done: &Done)
+        ensures { self.new ≡ record self.old { processes = with_answers self.old.processes (woken_of done.now) } }
     {
-        receive_at(&mut self.queues, id, pid, class, size, noerror)
-    }
-
-    /// msgctl with IPC_STAT: EINVAL.
-    pub(super) fn stat(&self, id: Id) -> Reply
-        ensures { on_named self.now (get self.now.queues id) (stat_effect self.now)
-            ≡ record { kernel = self.now; reply = result } }
-    {
-        match self.queues.get(&id) {
-            Some(queue) => queue.stat(),
-            None => Reply::Fail(Errno::Einval),
+        if let Done::Replies { woken, .. } = done {
+            self.processes.answer(woken.as_slice());
         }
     }
 
-    /// msgctl with IPC_SET: EINVAL.
-    pub(super) fn set_qbytes(&mut self, id: Id, qbytes: u32) -> Reply
-        ensures { on_named self.old (get self.old.queues id) (λ q. change_queue self.old id (set_qbytes q qbytes))
-            ≡ record { kernel = self.new; reply = result } }
+    /// msgctl with IPC_RMID: EINVAL where there is no such queue. Whoever waits is woken.
+    pub(super) fn remove_queue(&mut self, id: Id) -> Result<Done, CallFault>
+        ensures { (call : Call)
+            → Answers (Some (on_named self.old (get self.old.queues id) (remove_queue self.old id))) call result
+            self.old self.new }
     {
-        set_qbytes_at(&mut self.queues, id, qbytes)
-    }
-
-    /// msgctl with IPC_RMID: EINVAL.
-    pub(super) fn remove_queue(&mut self, id: Id) -> Reply
-        ensures { on_named self.old (get self.old.queues id) (λ _. remove_queue self.old id)
-            ≡ record { kernel = self.new; reply = result } }
-    {
-        if !remove_at(&mut self.queues, id) {
-            return Reply::Fail(Errno::Einval);
-        }
+        let Some(queue) = self.queues.get(&id) else {
+            return Ok(Done::alone(self.alloc, Reply::Fail(Errno::Einval)));
+        };
+        let done = Done::Replies {
+            reply: Reply::Num(0),
+            woken: Sequence::from_vec(queue.refusals(self.alloc)?),
+        };
+        remove_at(&mut self.queues, id);
         self.queue_names.unbind(id);
-        Reply::Num(0)
+        self.wake(&done);
+        Ok(done)
     }
 }

@@ -1,6 +1,6 @@
 use Rattle.std.proofs.Common.{◌≡◌, ◌∙◌, Some, sym, ap}
 use Rattle.kernel_model.specs.Signals.{Signals, with_mask}
-use Rattle.kernel_model.specs.Kernel.{living_at}
+use Rattle.waiting_model.specs.Kernel.{living_at}
 use Rattle.mono_kernel.proofs.SignalLemmas.{signals-land}
 use Rattle.mono_kernel.proofs.kernel.Kernel.change_mask.Goals as goal
 

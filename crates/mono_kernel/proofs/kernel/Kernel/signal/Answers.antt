@@ -1,6 +1,6 @@
 use Rattle.std.proofs.Common.{◌∙◌, ap, sym}
 use Rattle.kernel_model.specs.Signals.{Signals, raise}
-use Rattle.kernel_model.specs.Kernel.{living_at}
+use Rattle.waiting_model.specs.Kernel.{living_at}
 use Rattle.number_maps.proofs.Order.{same-from-nat_eq}
 use Rattle.mono_kernel.proofs.SignalLemmas.{signals-land, own-signal, some-of}
 use Rattle.mono_kernel.proofs.kernel.Kernel.signal.Goals as goal

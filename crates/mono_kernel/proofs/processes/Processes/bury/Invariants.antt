@@ -1,7 +1,7 @@
 use Rattle.std.proofs.Common.{◌≡◌, take}
 use Rattle.std.specs.List.{fold}
 use Rattle.std.specs.Map.{keys_of}
-use Rattle.kernel_model.specs.ProcessCalls.{bury}
+use Rattle.waiting_model.specs.ProcessCalls.{bury}
 use Rattle.mono_kernel.proofs.processes.Processes.bury.Given as goal
 
 abbrev pub invariant-loop-child : goal.invariant-loop-child

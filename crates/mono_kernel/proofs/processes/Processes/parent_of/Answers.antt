@@ -1,6 +1,6 @@
 use Rattle.std.proofs.Common.{◌∙◌, sym, ap}
 use Rattle.std.specs.Option.{option_map}
-use Rattle.kernel_model.specs.Kernel.{Parent}
+use Rattle.waiting_model.specs.Kernel.{Parent}
 use Rattle.mono_kernel.proofs.ParentLemmas.{parent_in-none, parent_in-one, parent_number-one, parent_in-stale, apart-listed}
 use Rattle.mono_kernel.proofs.processes.Processes.parent_of.Goals as goal
 

@@ -7,8 +7,8 @@ use Rattle.mono_kernel.proofs.QueueLemmas.{receive-too_long, receive-takes, is_c
 use Rattle.mono_kernel.proofs.queue.MessageQueue.receive.Goals as goal
 use Rattle.mono_kernel.proofs.queue.MessageQueue.receive.Goals.{else-len-size-via-then-len-size+else-not-noerror, else-len-size-via-else-len-size}
 
-pub returns-then-not-noerror : goal.returns-then-not-noerror
-returns-then-not-noerror c =
+pub returns-then-not-noerror-clause-received : goal.returns-then-not-noerror-clause-received
+returns-then-not-noerror-clause-received c =
     let fits : SFits w32 c.args.class = search rules
     in let q : Queue = record {
       messages = c.self.inside.messages.items;
@@ -30,8 +30,8 @@ returns-then-not-noerror c =
       refl,
     )
 
-pub returns-in-Some-remove : goal.returns-in-Some-remove
-returns-in-Some-remove c =
+pub returns-in-Some-remove-clause-received : goal.returns-in-Some-remove-clause-received
+returns-in-Some-remove-clause-received c =
     let fits : SFits w32 c.args.class = search rules
     in let q : Queue = record {
       messages = c.self.inside.messages.items;

@@ -1,0 +1,8 @@
+use Rattle.std.proofs.Common.{◌≡◌}
+use Rattle.waiting_model.specs.SemaphoreSet.{try_set}
+use Rattle.mono_kernel.specs.Settling.{WaitUpto}
+use Rattle.mono_kernel.proofs.awaited_set.AwaitedSet.wake_first.Given as goal
+
+abbrev pub invariant-loop-place : goal.invariant-loop-place
+invariant-loop-place l =
+    record { same : l.self ≡ l.initial.self; wait : WaitUpto try_set l.initial.self l.place }

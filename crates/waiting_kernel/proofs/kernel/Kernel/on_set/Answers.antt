@@ -1,9 +1,0 @@
-use Rattle.waiting_model.specs.Waiters.{waiter}
-use Rattle.waiting_kernel.proofs.EffectLemmas.{set-done}
-use Rattle.waiting_kernel.proofs.kernel.Kernel.on_set.Goals as goal
-
-pub returns : goal.returns
-returns c =
-    rw (← c.self.view_is)
-    (set-done _ c.wake.new.self c.args.id (waiter c.args.pid c.args.call.now) c.args.call.now _ c.in_ok-done.done
-    c.in_ok-done.ensures.ok c.wake.ensures)
