@@ -5,7 +5,9 @@ use crate::entry::{Entry, entry_of, sign_in, span_of, text_of_words};
 use crate::errors::meaning;
 use crate::judged::Judged;
 use crate::walk::{Process, Walk};
-use explain_base::{Fault, Finding, Line, Other, Page, Piece, Span, Style, Text, Words, without_blanks};
+use explain_base::{
+    Fault, Finding, Line, Other, Page, Piece, Span, Style, Text, Words, without_blanks,
+};
 use explain_calls::{Call, Told, others, text_at};
 use std::alloc::{AllocError, Global};
 
@@ -118,7 +120,11 @@ fn killed<'a>(line: &'a [u8], pid: &'a [u8], due: &'a [u8]) -> Fault<'a> {
 
 // A process waits, and the trace goes on with it.
 fn waits<'a>(line: &'a [u8], pid: &'a [u8], due: &'a [u8]) -> Fault<'a> {
-    let what = Text::whole_in("process ", pid, " waits, and makes no call before it is woken");
+    let what = Text::whole_in(
+        "process ",
+        pid,
+        " waits, and makes no call before it is woken",
+    );
     let expected = Text::four(
         Piece::whole(pid),
         Piece::plain(" "),

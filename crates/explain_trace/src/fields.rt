@@ -223,11 +223,7 @@ fn wrong_place<'a>(words: Words<'a>) -> Option<Wrong<'a>> {
     let kind = words.get(1)?;
     match kind.text {
         b"msg" | b"sem" | b"proc" => number(words.get(2)?, Range::of("N", 0, GREATEST)),
-        _ => Some(plain_wrong(
-            "no process waits at this",
-            "msg, sem or proc",
-            kind.span(),
-        )),
+        _ => Some(plain_wrong("no process waits at this", "msg, sem or proc", kind.span())),
     }
 }
 
