@@ -1,5 +1,5 @@
 use Rattle.world_tests.proofs.Played.{IsPlayed}
-use Rattle.world_tests.proofs.play.Given as goal
+use Rattle.world_tests.proofs.tests.play.Given as goal
 
 -- what is left leads where all of them lead
 abbrev pub invariant-loop-event : goal.invariant-loop-event
