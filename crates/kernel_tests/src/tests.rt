@@ -116,3 +116,47 @@ fn catch(sig: Sig) -> Call {
         act: Act::Catch,
     }
 }
+
+/// The rows of calls.
+#[derive(Clone, Copy)]
+enum Row {
+    WakeAReceive,
+    WakeByAWokenSend,
+    BeginAtTheFirst,
+    WakeTwoOfThree,
+    RefuseTheFirst,
+    Remove,
+    CountAndRemove,
+    PassOverOne,
+    StopAtNowait,
+    WakeAndStrike,
+    EndAnother,
+    Strike,
+}
+
+/// Makes the calls of a row.
+fn play(alloc: Global, kernel: &mut Kernel, said: &mut String, row: Row) -> Result<(), Fail> {
+    match row {
+        Row::WakeAReceive => queues::wake_a_receive(alloc, kernel, said),
+        Row::WakeByAWokenSend => queues::wake_by_a_woken_send(alloc, kernel, said),
+        Row::BeginAtTheFirst => queues::begin_at_the_first(alloc, kernel, said),
+        Row::WakeTwoOfThree => queues::wake_two_of_three(alloc, kernel, said),
+        Row::RefuseTheFirst => queues::refuse_the_first(alloc, kernel, said),
+        Row::Remove => queues::remove(alloc, kernel, said),
+        Row::CountAndRemove => sets::count_and_remove(alloc, kernel, said),
+        Row::PassOverOne => sets::pass_over_one(alloc, kernel, said),
+        Row::StopAtNowait => sets::stop_at_nowait(alloc, kernel, said),
+        Row::WakeAndStrike => processes::wake_and_strike(alloc, kernel, said),
+        Row::EndAnother => processes::end_another(alloc, kernel, said),
+        Row::Strike => processes::strike(alloc, kernel, said),
+    }
+}
+
+/// What a row's calls come to. This function alone owns a kernel, since each that does proves again how one is let go.
+fn told(alloc: Global, row: Row) -> Result<String, Fail> {
+    let mut kernel = Kernel::new(alloc)?;
+    let mut said = String::new(alloc);
+    open(alloc, &mut kernel)?;
+    play(alloc, &mut kernel, &mut said, row)?;
+    Ok(said)
+}

@@ -1,5 +1,5 @@
 //! Queues at which callers wait.
-use super::{fork, make, open, receive};
+use super::{Row, fork, make, receive, told};
 use mono_kernel::Kernel;
 use pico_base::{Bytes, Call, Id};
 use std::alloc::Global;
@@ -47,7 +47,11 @@ fn bound(alloc: Global, kernel: &mut Kernel, said: &mut String, qbytes: u32) -> 
 }
 
 /// A receive waits, and a send wakes it.
-fn wake_a_receive(alloc: Global, kernel: &mut Kernel, said: &mut String) -> Result<(), Fail> {
+pub(super) fn wake_a_receive(
+    alloc: Global,
+    kernel: &mut Kernel,
+    said: &mut String,
+) -> Result<(), Fail> {
     make(alloc, kernel, said, 2, &receive(0, 8))?;
     send(alloc, kernel, said, 1, 1, b"hi")?;
     look(alloc, kernel, said)
@@ -56,10 +60,7 @@ fn wake_a_receive(alloc: Global, kernel: &mut Kernel, said: &mut String) -> Resu
 #[test]
 fn a_send_wakes_a_receive(rt: HostRuntime) -> Result<(), Fail> {
     let alloc = rt.alloc();
-    let mut kernel = Kernel::new(alloc)?;
-    let mut said = String::new(alloc);
-    open(alloc, &mut kernel)?;
-    wake_a_receive(alloc, &mut kernel, &mut said)?;
+    let said = told(alloc, Row::WakeAReceive)?;
     assert_eq!(rt;
         said.as_str(),
         "parked\n0 wakes 2 1 hi\nStat { qnum: 0, qbytes: 16384, lspid: Pid(1), lrpid: Pid(2) }\n"
@@ -68,7 +69,11 @@ fn a_send_wakes_a_receive(rt: HostRuntime) -> Result<(), Fail> {
 }
 
 /// A send waits for room and another process for its message, and then room comes.
-fn wake_by_a_woken_send(alloc: Global, kernel: &mut Kernel, said: &mut String) -> Result<(), Fail> {
+pub(super) fn wake_by_a_woken_send(
+    alloc: Global,
+    kernel: &mut Kernel,
+    said: &mut String,
+) -> Result<(), Fail> {
     bound(alloc, kernel, said, 4)?;
     send(alloc, kernel, said, 1, 1, b"abcd")?;
     send(alloc, kernel, said, 2, 2, b"ef")?;
@@ -79,10 +84,7 @@ fn wake_by_a_woken_send(alloc: Global, kernel: &mut Kernel, said: &mut String) -
 #[test]
 fn a_woken_send_lets_a_receive_go_on(rt: HostRuntime) -> Result<(), Fail> {
     let alloc = rt.alloc();
-    let mut kernel = Kernel::new(alloc)?;
-    let mut said = String::new(alloc);
-    open(alloc, &mut kernel)?;
-    wake_by_a_woken_send(alloc, &mut kernel, &mut said)?;
+    let said = told(alloc, Row::WakeByAWokenSend)?;
     assert_eq!(rt;
         said.as_str(),
         "0\n0\nparked\nparked\n1 abcd wakes 2 0 wakes 3 2 ef\n"
@@ -91,7 +93,11 @@ fn a_woken_send_lets_a_receive_go_on(rt: HostRuntime) -> Result<(), Fail> {
 }
 
 /// The same, where the receive waits before the send.
-fn begin_at_the_first(alloc: Global, kernel: &mut Kernel, said: &mut String) -> Result<(), Fail> {
+pub(super) fn begin_at_the_first(
+    alloc: Global,
+    kernel: &mut Kernel,
+    said: &mut String,
+) -> Result<(), Fail> {
     bound(alloc, kernel, said, 4)?;
     send(alloc, kernel, said, 1, 1, b"abcd")?;
     make(alloc, kernel, said, 3, &receive(2, 8))?;
@@ -102,10 +108,7 @@ fn begin_at_the_first(alloc: Global, kernel: &mut Kernel, said: &mut String) -> 
 #[test]
 fn a_wake_lets_an_older_one_go_on(rt: HostRuntime) -> Result<(), Fail> {
     let alloc = rt.alloc();
-    let mut kernel = Kernel::new(alloc)?;
-    let mut said = String::new(alloc);
-    open(alloc, &mut kernel)?;
-    begin_at_the_first(alloc, &mut kernel, &mut said)?;
+    let said = told(alloc, Row::BeginAtTheFirst)?;
     assert_eq!(rt;
         said.as_str(),
         "0\n0\nparked\nparked\n1 abcd wakes 2 0 wakes 3 2 ef\n"
@@ -114,7 +117,11 @@ fn a_wake_lets_an_older_one_go_on(rt: HostRuntime) -> Result<(), Fail> {
 }
 
 /// Two sends that wait, of which the first goes on first, and one that doesn't fit any more.
-fn wake_two_of_three(alloc: Global, kernel: &mut Kernel, said: &mut String) -> Result<(), Fail> {
+pub(super) fn wake_two_of_three(
+    alloc: Global,
+    kernel: &mut Kernel,
+    said: &mut String,
+) -> Result<(), Fail> {
     fork(alloc, kernel, said, 4)?;
     bound(alloc, kernel, said, 0)?;
     send(alloc, kernel, said, 2, 1, b"ab")?;
@@ -126,10 +133,7 @@ fn wake_two_of_three(alloc: Global, kernel: &mut Kernel, said: &mut String) -> R
 #[test]
 fn several_are_woken_in_order(rt: HostRuntime) -> Result<(), Fail> {
     let alloc = rt.alloc();
-    let mut kernel = Kernel::new(alloc)?;
-    let mut said = String::new(alloc);
-    open(alloc, &mut kernel)?;
-    wake_two_of_three(alloc, &mut kernel, &mut said)?;
+    let said = told(alloc, Row::WakeTwoOfThree)?;
     assert_eq!(rt;
         said.as_str(),
         "4\n0\nparked\nparked\nparked\n0 wakes 2 0 wakes 3 0\n"
@@ -138,7 +142,11 @@ fn several_are_woken_in_order(rt: HostRuntime) -> Result<(), Fail> {
 }
 
 /// A message that is too long for the first who waits.
-fn refuse_the_first(alloc: Global, kernel: &mut Kernel, said: &mut String) -> Result<(), Fail> {
+pub(super) fn refuse_the_first(
+    alloc: Global,
+    kernel: &mut Kernel,
+    said: &mut String,
+) -> Result<(), Fail> {
     make(alloc, kernel, said, 2, &receive(0, 1))?;
     make(alloc, kernel, said, 3, &receive(0, 8))?;
     send(alloc, kernel, said, 1, 1, b"ab")
@@ -147,10 +155,7 @@ fn refuse_the_first(alloc: Global, kernel: &mut Kernel, said: &mut String) -> Re
 #[test]
 fn a_longer_message_refuses_a_woken_receive(rt: HostRuntime) -> Result<(), Fail> {
     let alloc = rt.alloc();
-    let mut kernel = Kernel::new(alloc)?;
-    let mut said = String::new(alloc);
-    open(alloc, &mut kernel)?;
-    refuse_the_first(alloc, &mut kernel, &mut said)?;
+    let said = told(alloc, Row::RefuseTheFirst)?;
     assert_eq!(rt;
         said.as_str(),
         "parked\nparked\n0 wakes 2 E2big wakes 3 1 ab\n"
@@ -159,7 +164,7 @@ fn a_longer_message_refuses_a_woken_receive(rt: HostRuntime) -> Result<(), Fail>
 }
 
 /// The queue is removed while two wait.
-fn remove(alloc: Global, kernel: &mut Kernel, said: &mut String) -> Result<(), Fail> {
+pub(super) fn remove(alloc: Global, kernel: &mut Kernel, said: &mut String) -> Result<(), Fail> {
     make(alloc, kernel, said, 2, &receive(0, 8))?;
     make(alloc, kernel, said, 3, &receive(1, 8))?;
     make(alloc, kernel, said, 1, &Call::MsgRmid { id: Id(1) })?;
@@ -169,10 +174,7 @@ fn remove(alloc: Global, kernel: &mut Kernel, said: &mut String) -> Result<(), F
 #[test]
 fn a_removal_wakes_all(rt: HostRuntime) -> Result<(), Fail> {
     let alloc = rt.alloc();
-    let mut kernel = Kernel::new(alloc)?;
-    let mut said = String::new(alloc);
-    open(alloc, &mut kernel)?;
-    remove(alloc, &mut kernel, &mut said)?;
+    let said = told(alloc, Row::Remove)?;
     assert_eq!(rt;
         said.as_str(),
         "parked\nparked\n0 wakes 2 Eidrm wakes 3 Eidrm\nEinval\n"

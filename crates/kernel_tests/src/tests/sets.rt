@@ -1,5 +1,5 @@
 //! Semaphore sets at which callers wait.
-use super::{fork, make, open};
+use super::{Row, fork, make, told};
 use mono_kernel::Kernel;
 use pico_base::{Call, Id, SemStep, Steps};
 use std::alloc::Global;
@@ -47,7 +47,11 @@ fn raise(alloc: Global, kernel: &mut Kernel, said: &mut String) -> Result<(), Fa
 }
 
 /// One who waits is counted where its trial stops, and woken by a removal.
-fn count_and_remove(alloc: Global, kernel: &mut Kernel, said: &mut String) -> Result<(), Fail> {
+pub(super) fn count_and_remove(
+    alloc: Global,
+    kernel: &mut Kernel,
+    said: &mut String,
+) -> Result<(), Fail> {
     operate(alloc, kernel, said, 2, &[step(0, -1), step(1, -1)])?;
     count(alloc, kernel, said)?;
     raise(alloc, kernel, said)?;
@@ -59,10 +63,7 @@ fn count_and_remove(alloc: Global, kernel: &mut Kernel, said: &mut String) -> Re
 #[test]
 fn who_waits_is_counted_where_it_stops(rt: HostRuntime) -> Result<(), Fail> {
     let alloc = rt.alloc();
-    let mut kernel = Kernel::new(alloc)?;
-    let mut said = String::new(alloc);
-    open(alloc, &mut kernel)?;
-    count_and_remove(alloc, &mut kernel, &mut said)?;
+    let said = told(alloc, Row::CountAndRemove)?;
     assert_eq!(rt;
         said.as_str(),
         "parked\n1\n0\n0\n0\n1\n0 wakes 2 Eidrm\nEinval\n"
@@ -71,7 +72,11 @@ fn who_waits_is_counted_where_it_stops(rt: HostRuntime) -> Result<(), Fail> {
 }
 
 /// The second of three who wait wants more than there is.
-fn pass_over_one(alloc: Global, kernel: &mut Kernel, said: &mut String) -> Result<(), Fail> {
+pub(super) fn pass_over_one(
+    alloc: Global,
+    kernel: &mut Kernel,
+    said: &mut String,
+) -> Result<(), Fail> {
     fork(alloc, kernel, said, 4)?;
     operate(alloc, kernel, said, 2, &[step(0, -1)])?;
     operate(alloc, kernel, said, 3, &[step(0, -5)])?;
@@ -83,10 +88,7 @@ fn pass_over_one(alloc: Global, kernel: &mut Kernel, said: &mut String) -> Resul
 #[test]
 fn the_third_goes_on_and_not_the_second(rt: HostRuntime) -> Result<(), Fail> {
     let alloc = rt.alloc();
-    let mut kernel = Kernel::new(alloc)?;
-    let mut said = String::new(alloc);
-    open(alloc, &mut kernel)?;
-    pass_over_one(alloc, &mut kernel, &mut said)?;
+    let said = told(alloc, Row::PassOverOne)?;
     assert_eq!(rt;
         said.as_str(),
         "4\nparked\nparked\nparked\n0 wakes 2 0 wakes 4 0\n1\n0\n"
@@ -95,7 +97,11 @@ fn the_third_goes_on_and_not_the_second(rt: HostRuntime) -> Result<(), Fail> {
 }
 
 /// Once the first operation can go on, the trial stops at one that mayn't wait.
-fn stop_at_nowait(alloc: Global, kernel: &mut Kernel, said: &mut String) -> Result<(), Fail> {
+pub(super) fn stop_at_nowait(
+    alloc: Global,
+    kernel: &mut Kernel,
+    said: &mut String,
+) -> Result<(), Fail> {
     let second = SemStep {
         num: 1,
         add: -1,
@@ -109,10 +115,7 @@ fn stop_at_nowait(alloc: Global, kernel: &mut Kernel, said: &mut String) -> Resu
 #[test]
 fn a_woken_operation_is_refused_at_nowait(rt: HostRuntime) -> Result<(), Fail> {
     let alloc = rt.alloc();
-    let mut kernel = Kernel::new(alloc)?;
-    let mut said = String::new(alloc);
-    open(alloc, &mut kernel)?;
-    stop_at_nowait(alloc, &mut kernel, &mut said)?;
+    let said = told(alloc, Row::StopAtNowait)?;
     assert_eq!(rt;
         said.as_str(),
         "parked\n0 wakes 2 Eagain\nAll(Sequence { items: [1, 0] })\n"
