@@ -1,6 +1,6 @@
 -- Worked examples beside those of the definitions, computed by the checker: what waits without a trace of it, what is
 -- withdrawn, and what is removed.
-use Rattle.std.specs.Prelude.{◌≡◌, pos, List, [], ◌∷◌, refl, codes}
+use Rattle.std.specs.Prelude.{◌≡◌, pos, [], ◌∷◌, refl, codes}
 use Rattle.pico_base.specs.declared.call.Call.TheVariants as calls
 use Rattle.pico_base.specs.declared.numbers.Name.TheVariants.{Msg}
 use Rattle.pico_base.specs.declared.reply.Errno.TheVariants.{Einval, Eidrm, Eintr}
