@@ -1,11 +1,12 @@
 //! Bodies as bytes, and a process's end under its parent.
 ghost use Rattle.std.specs.Prelude.{◌≡◌, ◌≤◌, ◌∷◌, [], Some, IfOk, IsTrue};
 ghost use Rattle.pico_base.specs.declared.numbers.Name.TheVariants.{Proc};
-ghost use Rattle.deed_box.specs.Packing.{names_of};
+ghost use Rattle.deed_box.specs.Packing.{names_of, IsPackedDeed};
 ghost use Rattle.node_model.specs.Bodies.{is_living_body};
 ghost use Rattle.node_serve.specs.Bodies.{body_of};
 ghost use Rattle.node_serve.specs.Ending.{fits_as_read, lets};
-ghost use Rattle.node_serve.specs.Spelled.{suits};
+ghost use Rattle.node_serve.specs.Spelled.{suits, IsSpelled};
+ghost use Rattle.node_serve.specs.declared.body.Body.TheVariants.{Ended};
 
 use deed_box::{Deed, Deeds, Shared};
 use fork_wait::Family;
@@ -13,7 +14,7 @@ use node_serve::{Body, Row, Served, commit_exit, is_body, serve};
 use pico_base::{
     Call, Ending, How, Id, Memory, Name, Outcome, Pid, Reply, Sig, SigSet, UnpackFault,
 };
-use rpc_frame::{PackedDeeds, Parcel};
+use rpc_frame::{PackedDeed, PackedDeeds, Parcel};
 use signal_state::Signals;
 use std::alloc::Global;
 use std::mem::ManuallyDrop;
@@ -80,6 +81,14 @@ fn a_removed_queue_s_body_is_no_process_s(rt: HostRuntime) -> Result<(), Fail> {
     Ok(())
 }
 
+/// The deed of a process that has ended so.
+fn ended(alloc: Global, pid: u32, ending: Ending) -> Result<PackedDeed, Memory>
+    ensures { IfOk result (IsPackedDeed suits IsSpelled (Proc pid, Ended ending)) }
+{
+    let body = Body::Ended(ending);
+    Deed::create_packed(alloc, Name::Proc(Pid(pid)), &body)
+}
+
 /// What process 2 hands over to process 1 at its end: its own deed, and those of three children that have ended.
 fn parcel_of(alloc: Global, own: &Body) -> Result<Parcel, Memory>
     requires { IsTrue (is_living_body (body_of own.now)) }
@@ -91,10 +100,8 @@ fn parcel_of(alloc: Global, own: &Body) -> Result<Parcel, Memory>
 {
     let mut deeds = Vec::new(alloc);
     deeds.push(Deed::create_packed(alloc, Name::Proc(Pid(2)), own)?)?;
-    let first = Body::Ended(Ending::Exited(1));
-    deeds.push(Deed::create_packed(alloc, Name::Proc(Pid(3)), &first)?)?;
-    let second = Body::Ended(Ending::Killed(Sig::Term));
-    deeds.push(Deed::create_packed(alloc, Name::Proc(Pid(4)), &second)?)?;
+    deeds.push(ended(alloc, 3, Ending::Exited(1))?)?;
+    deeds.push(ended(alloc, 4, Ending::Killed(Sig::Term))?)?;
     deeds.push(Deed::create_packed(alloc, Name::Proc(Pid(5)), &Body::Gone)?)?;
     Ok(Parcel {
         pid: Pid(2),
@@ -119,10 +126,21 @@ fn process_with(alloc: Global, child: Pid) -> Result<Body, Memory>
     }))
 }
 
+/// The same, where it has the child 6.
+fn parcel_of_2(alloc: Global) -> Result<Parcel, Memory>
+    ensures fits { IfOk result (λ parcel. IsTrue (fits_as_read parcel)) }
+    ensures names { IfOk result
+        (λ parcel. names_of parcel.deeds ≡ Proc 2 ∷ Proc 3 ∷ Proc 4 ∷ Proc 5 ∷ []) }
+    ensures process { IfOk result (λ parcel. parcel.pid ≡ 2) }
+    ensures parent { IfOk result (λ parcel. parcel.parent ≡ 1) }
+{
+    let own = process_with(alloc, Pid(6))?;
+    parcel_of(alloc, &own)
+}
+
 /// The deeds that process 1 is left with by the end of process 2, and what the exit comes to.
 fn end_under_parent(rt: &impl Abort, alloc: Global) -> Result<(Deeds<Body>, Outcome), Fail> {
-    let own = process_with(alloc, Pid(6))?;
-    let parcel = parcel_of(alloc, &own)?;
+    let parcel = parcel_of_2(alloc)?;
     let parent = process_with(alloc, Pid(2))?;
     let mut deeds: Deeds<Body> = Deeds::new(alloc)?;
     deeds.reserve(1)?;

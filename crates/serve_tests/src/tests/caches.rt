@@ -28,15 +28,22 @@ fn says(cache: &mut Cache, rows: &[(Name, u8)]) -> bool {
     true
 }
 
+const FIRST: Name = Name::Msg(Id(1));
+
+const SECOND: Name = Name::Msg(Id(2));
+
+const THIRD: Name = Name::Msg(Id(3));
+
+const SET: Name = Name::Sem(Id(2));
+
 #[test]
 fn the_name_used_longest_ago_goes(rt: HostRuntime) -> Result<(), Fail> {
     let mut cache = full(rt.alloc())?;
-    let (second, third, set) = (Name::Msg(Id(2)), Name::Msg(Id(3)), Name::Sem(Id(2)));
-    assert!(rt; says(&mut cache, &[(Name::Msg(Id(1)), 0), (second, 2)]));
+    assert!(rt; says(&mut cache, &[(FIRST, 0), (SECOND, 2)]));
     // The look has kept the second name, so the third is the one that goes.
-    cache.learn(set, Node(3))?;
-    assert!(rt; says(&mut cache, &[(third, 0), (second, 2), (set, 3)]));
-    cache.forget(set);
-    assert!(rt; says(&mut cache, &[(set, 0)]));
+    cache.learn(SET, Node(3))?;
+    assert!(rt; says(&mut cache, &[(THIRD, 0), (SECOND, 2), (SET, 3)]));
+    cache.forget(SET);
+    assert!(rt; says(&mut cache, &[(SET, 0)]));
     Ok(())
 }
