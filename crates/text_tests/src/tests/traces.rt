@@ -70,7 +70,7 @@ fn three_withdrawals(alloc: Global) -> Result<Entries, Fail> {
 }
 
 #[test]
-fn a_withdrawal_is_written_and_not_read(rt: HostRuntime) -> Result<(), Fail> {
+fn a_withdrawal_is_written_and_read_again(rt: HostRuntime) -> Result<(), Fail> {
     let alloc = rt.alloc();
     let script = two_blocks(alloc)?;
     let text = write_trace(alloc, &script, &three_withdrawals(alloc)?)?;
@@ -81,8 +81,102 @@ fn a_withdrawal_is_written_and_not_read(rt: HostRuntime) -> Result<(), Fail> {
         "totals entries 3 processes 1 notready 0 refused 3\n"
     );
     assert_eq!(rt; text.as_slice(), wanted.as_bytes());
-    let fault = read_trace(alloc, &script, wanted.as_bytes(), 7).err();
-    assert!(rt; matches!(fault, Some(CheckFault::NotATrace { line: 7 })));
+    let entries = read_trace(alloc, &script, wanted.as_bytes(), 7)?;
+    assert_eq!(rt; entries, three_withdrawals(alloc)?);
+    Ok(())
+}
+
+// A receive that parks, and a message that wakes its caller and another one.
+fn two_waits(alloc: Global) -> Result<Entries, Fail> {
+    let mut parked = made_by_first(alloc, Call::GetPid, Reply::Num(1));
+    parked.outcome.own = None;
+    let mut waking = made_by_first(alloc, Call::SigPending, Reply::Num(0));
+    waking
+        .outcome
+        .woken
+        .push((Pid(3), Reply::Fail(Errno::Enomsg)))?;
+    waking.outcome.woken.push((Pid(2), Reply::Num(7)))?;
+    Ok(Entries::from_vec(vec![in alloc; parked, waking]?))
+}
+
+#[test]
+fn waits_are_written_and_read_again(rt: HostRuntime) -> Result<(), Fail> {
+    let alloc = rt.alloc();
+    let script = two_blocks(alloc)?;
+    let text = write_trace(alloc, &script, &two_waits(alloc)?)?;
+    let wanted = concat!(
+        "1 getpid = parked by 1\n",
+        "1 sigpending = 0 by 1 wakes 3 ENOMSG wakes 2 7\n",
+        "totals entries 2 processes 1 notready 1 refused 0\n"
+    );
+    assert_eq!(rt; text.as_slice(), wanted.as_bytes());
+    let entries = read_trace(alloc, &script, wanted.as_bytes(), 1)?;
+    assert_eq!(rt; entries, two_waits(alloc)?);
+    Ok(())
+}
+
+// A line that a trace doesn't have, and its totals.
+fn is_refused(alloc: Global, script: &Script, line: &str) -> Result<bool, Fail>
+    requires { IsSoundScript script.now }
+{
+    let mut text = Vec::new(alloc);
+    push(&mut text, line.as_bytes())?;
+    push(&mut text, b"\ntotals entries 1 processes 1 notready 0 refused 0\n")?;
+    let fault = read_trace(alloc, script, &text, 7).err();
+    Ok(matches!(fault, Some(CheckFault::NotATrace { line: 7 })))
+}
+
+// Lines with waits that a trace doesn't have.
+const NO_LINES: [&str; 12] = [
+    "1 getpid = parked",
+    "1 getpid = parked 1 by 1",
+    "1 getpid = Parked by 1",
+    "1 getpid = 1 wakes 2 0 by 1",
+    "1 getpid = 1 by 1 wakes",
+    "1 getpid = 1 by 1 wakes 2",
+    "1 getpid = 1 by 1 wakes 2 parked",
+    "1 getpid = 1 by 1 wakes 4294967296 0",
+    "1 getpid = 1 by 1 wakes 2 0 ",
+    "1 getpid = 1 by 1 wakes 2 0 by 1",
+    "1 withdraw = 0 by 1",
+    "1 withdraw set 1 = 0 by 1",
+];
+
+#[test]
+fn other_waits_are_no_lines(rt: HostRuntime) -> Result<(), Fail> {
+    let alloc = rt.alloc();
+    let script = two_blocks(alloc)?;
+    for line in NO_LINES {
+        assert!(rt; is_refused(alloc, &script, line)?);
+    }
+    Ok(())
+}
+
+// A removal that wakes so many callers by a number of one digit, and so many by one of two.
+fn removal(alloc: Global, short: usize, long: usize) -> Result<Vec<u8>, Fail> {
+    let mut text = Vec::new(alloc);
+    push(&mut text, b"1 msgctl 1 rmid = 0 by 1")?;
+    for _ in 0..short {
+        push(&mut text, b" wakes 2 EIDRM")?;
+    }
+    for _ in 0..long {
+        push(&mut text, b" wakes 20 EIDRM")?;
+    }
+    push(&mut text, b"\ntotals entries 1 processes 1 notready 0 refused 74896\n")?;
+    Ok(text)
+}
+
+// The first line has 24 + 14 * 74,888 + 15 * 8 bytes, which are 1,048,576; the second one has one more.
+#[test]
+fn a_line_may_have_a_mebibyte(rt: HostRuntime) -> Result<(), Fail> {
+    let alloc = rt.alloc();
+    let script = two_blocks(alloc)?;
+    let longest = removal(alloc, 74888, 8)?;
+    let entries = read_trace(alloc, &script, &longest, 1)?;
+    assert_eq!(rt; entries.len(), 1);
+    let longer = removal(alloc, 74887, 9)?;
+    let fault = read_trace(alloc, &script, &longer, 1).err();
+    assert!(rt; matches!(fault, Some(CheckFault::NotATrace { line: 1 })));
     Ok(())
 }
 
@@ -157,7 +251,17 @@ const TRACE: &str = concat!(
     "1 semctl 1 getall = all 1,0 by 1\n",
     "1 semctl 1 setall 1,0,65535 = 0 by 1\n",
     "1 semctl 1 rmid = 0 by 1\n",
-    "totals entries 33 processes 2 notready 1 refused 6\n"
+    "2 msgrcv 4294967295 0 8 = parked by 2\n",
+    "1 msgsnd 1 1 \"hi\" = 0 by 2 wakes 2 1 \"hi\"\n",
+    "1 msgctl 1 rmid = 0 by 1 wakes 3 EIDRM wakes 2 EIDRM\n",
+    "1 semctl 1 setval 0 1 = 0 by 1 wakes 4 0 wakes 4294967295 0\n",
+    "1 exit 0 = ended by 1 wakes 3 1 exited 0 wakes 2 1 killed KILL\n",
+    "1 getpid = parked by 1 wakes 0 EAGAIN wakes 5 all 7,0 wakes 6 none wakes 7 HUP,INT",
+    " wakes 8 qnum 1 qbytes 2 lspid 3 lrpid 4 wakes 9 -1 rep:17:z wakes 9 ended\n",
+    "2 withdraw msg 4294967295 = EINTR by 2\n",
+    "3 withdraw sem 0 = 0 by 3\n",
+    "4 withdraw proc 1 = parked by 4\n",
+    "totals entries 42 processes 2 notready 2 refused 9\n"
 );
 
 #[test]
@@ -165,7 +269,7 @@ fn a_trace_is_read_and_written_again(rt: HostRuntime) -> Result<(), Fail> {
     let alloc = rt.alloc();
     let script = two_blocks(alloc)?;
     let entries = read_trace(alloc, &script, TRACE.as_bytes(), 1)?;
-    assert_eq!(rt; entries.len(), 33);
+    assert_eq!(rt; entries.len(), 42);
     let text = write_trace(alloc, &script, &entries)?;
     assert_eq!(rt; text.as_slice(), TRACE.as_bytes());
     Ok(())
