@@ -111,7 +111,7 @@ impl Cursor {
 
     /// The call that waits, if one does, has this reply.
     pub(crate) fn answers(&mut self, script: &Script, reply: &Reply) -> Result<(), Memory>
-        requires steady { IsSteady script.now self.old }
+        requires { IsSteady script.now self.old }
         ensures { OnOk result (self.new ≡ answered script.now self.old reply.now) }
     {
         if self.is_parked() {
@@ -123,7 +123,7 @@ impl Cursor {
 
     /// The process has withdrawn the call that waits, and this is its reply.
     fn withdraws(&mut self, script: &Script, own: &Option<Reply>) -> Result<(), Memory>
-        requires steady { IsSteady script.now self.old }
+        requires { IsSteady script.now self.old }
         ensures { OnOk result (self.new ≡ after_withdrawal script.now self.old own.now) }
     {
         match own {

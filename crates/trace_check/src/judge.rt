@@ -168,9 +168,8 @@ fn make(
     requires sound { IsSoundScript script.now }
     requires steady { AreSteady script.now cursors.old.entries }
     requires may { MayMakeAt script.now cursors.old.entries pid call.now }
-    ensures made { OnOk result (cursors.new.entries
+    ensures { OnOk result (cursors.new.entries
         ≡ after_made script.now cursors.old.entries pid call.now own.now (get cursors.old.entries pid)) }
-    ensures steady { OnOk result (AreSteady script.now cursors.new.entries) }
 {
     let forked = forked_at(alloc, script, cursors, pid, call, own)?;
     move_at(script, cursors, pid, call, own)?;
@@ -187,7 +186,7 @@ fn wake(
     pid: Pid,
     reply: &Reply,
 ) -> Result<(), Memory>
-    requires steady { AreSteady script.now cursors.old.entries }
+    requires { AreSteady script.now cursors.old.entries }
     ensures woken { OnOk result (cursors.new.entries
         ≡ after_woken script.now cursors.old.entries (pid, reply.now)) }
     ensures steady { OnOk result (AreSteady script.now cursors.new.entries) }
@@ -204,7 +203,7 @@ fn wake_all(
     cursors: &mut Cursors,
     woken: &[(Pid, Reply)],
 ) -> Result<(), Memory>
-    requires steady { AreSteady script.now cursors.old.entries }
+    requires { AreSteady script.now cursors.old.entries }
     ensures woken { OnOk result (cursors.new.entries
         ≡ fold (after_woken script.now) cursors.old.entries woken.now) }
     ensures steady { OnOk result (AreSteady script.now cursors.new.entries) }
@@ -292,13 +291,19 @@ impl Judge {
                 found: Some(call),
             });
         }
-        match carry_out(&mut self.kernel, line, pid, &call, outcome, &mut self.texts) {
-            Ok(outcome) => {
-                move_on(self.alloc, script, &mut self.cursors, pid, &call, &outcome)?;
-                Ok(())
-            }
-            Err(fault) => Err(fault),
-        }
+        let outcome = match carry_out(
+            &mut self.kernel,
+            line,
+            pid,
+            &call,
+            outcome,
+            &mut self.texts,
+        ) {
+            Ok(outcome) => outcome,
+            Err(fault) => return Err(fault),
+        };
+        move_on(self.alloc, script, &mut self.cursors, pid, &call, &outcome)?;
+        Ok(())
     }
 
     /// Judges the next entry, and counts it.

@@ -6,7 +6,7 @@ use Rattle.trace_check.proofs.judge.wake.Goals as goal
 
 pub answers-requires : goal.answers-requires
 answers-requires c =
-    steady-at c.args.script.now c.args.cursors.now.entries c.args.pid c.in-Some.cursor.now c.requires.steady
+    steady-at c.args.script.now c.args.cursors.now.entries c.args.pid c.in-Some.cursor.now c.requires
     (sym c.in-Some.ensures.value)
 
 pub returns-in-Some-clause-woken : goal.returns-in-Some-clause-woken
@@ -25,5 +25,5 @@ returns-in-Some-clause-steady c =
     c.in-Some.cursor.now c.answers.new.self c.get_mut.ensures.ordered (sym c.in-Some.ensures.value) e
     (c.get_mut.follows.holds c.answers.new.self).0))
     (steady-after-woken c.args.script.now c.args.cursors.now.entries (c.args.pid, c.args.reply.now)
-    c.requires.steady))
+    c.requires))
     c.answers.ensures

@@ -25,8 +25,8 @@ returns-in-Err-clause-judged c =
     c.args.outcome c.last_doom-doom.result c.last_doom-doom.ensures
     (sym c.in_ok-may_come.ensures ∙ c.if-not-branch.false) c.in-Err.fault c.in-Err.ensures.yields
 
-pub returns-in-Ok-clause-judged : goal.returns-in-Ok-clause-judged
-returns-in-Ok-clause-judged c =
+pub returns-clause-judged : goal.returns-clause-judged
+returns-clause-judged c =
     made c.args.script.now c.args.line c.args.self.now.kernel c.args.self.now.cursors.entries c.args.pid c.args.call
     c.args.outcome c.last_doom-doom.result c.last_doom-doom.ensures
     (sym c.in_ok-may_come.ensures ∙ c.if-not-branch.false) c.requires.steady c.carry_out.new.kernel
