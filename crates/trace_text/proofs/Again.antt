@@ -110,9 +110,9 @@ totals-of h few forks waits refusals =
           (both (codes " processes ") (decimal (1 + count_by (λ e. is_fork e.call) h)) refl
           (number (1 + count_by (λ e. is_fork e.call) h) (omega (arith, few, forks)))))
           (both (codes " notready ") (decimal (sum_by (λ e. replies_where is_not_ready_reply e.outcome) h)) refl
-          (number (sum_by (λ e. replies_where is_not_ready_reply e.outcome) h) waits))))
+          (number (sum_by (λ e. replies_where is_not_ready_reply e.outcome) h) waits)))
           (both (codes " refused ") (decimal (sum_by (λ e. replies_where is_refused_reply e.outcome) h)) refl
-          (number (sum_by (λ e. replies_where is_refused_reply e.outcome) h) refusals)));
+          (number (sum_by (λ e. replies_where is_refused_reply e.outcome) h) refusals));
     }
 
 -- ---- no line has more replies than bytes

@@ -9,6 +9,7 @@ use Rattle.std.proofs.lemmas.Option.{same_Some}
 use Rattle.std.proofs.lemmas.Slice.Eq.{bytes_eq-Decides}
 use Rattle.pico_base.specs.declared.call.Call.{Call}
 use Rattle.pico_base.specs.declared.reply.Entry.{Entry}
+use Rattle.pico_base.specs.declared.reply.Outcome.{Outcome}
 use Rattle.pico_base.specs.declared.reply.Reply.{Reply}
 use Rattle.pico_base.specs.declared.script.Script.{Script}
 use Rattle.kernel_model.specs.Numbers.{is_u32, is_between}
@@ -217,8 +218,9 @@ entry-reads script line e sound h text =
     let a = in-grammar script e h in
     let printed : List ℕ = line_of script e.pid e.call e.outcome.own e.by e.outcome.woken in
     let whole : line ≡ printed = same-front line printed 10 (sym text ∙ line-is script e) in
+    let o : Outcome = e.outcome in
     let read : entry_at script line ≡ Some e =
     ap (entry_at script) whole
-    ∙ entry-again script e.pid e.call e.outcome.own e.by e.outcome.woken sound a.pid a.call a.own a.woken a.low a.high in
+    ∙ entry-again script e.pid e.call o.own e.by o.woken sound a.pid a.call a.own a.woken a.low a.high in
     let test : is_line (entry_line script e) line ≡ true = ap (λ (x : List ℕ). is_line x line) text ∙ line-again line in
     rw (read, h, test) refl

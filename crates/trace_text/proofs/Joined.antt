@@ -1,5 +1,5 @@
--- Values and sets of signals, where what follows begins with no comma. Behind them may stand a blank or nothing: a woken
--- caller's reply ends the line.
+-- Values and sets of signals, where what follows begins with no comma. Behind them may stand a blank or nothing: the
+-- reply of a caller that is woken may end the line.
 use Rattle.std.proofs.Common.{◌≡◌, ℕ, ◌≤◌, Bool, true, false, List, [], ◌∷◌, ◌++◌, length, Option, Some, None, refl, sym, ap, ◌∙◌, append_assoc, arith}
 use Rattle.std.specs.Prelude.{codes, decimal, fold}
 use Rattle.std.specs.List.{AllByRecursion, flat_map, filter}

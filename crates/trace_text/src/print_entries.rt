@@ -48,7 +48,8 @@ fn push_wakes(out: &mut Vec<u8>, woken: &[(Pid, Reply)]) -> Result<(), Memory>
 }
 
 /// Adds what a call came to, as a trace has it but for the node: the caller's reply, or `parked` where it has none yet,
-/// and ` wakes PID REPLY` for each caller that is woken, in order. Memory: more was needed, and an allocation was refused.
+/// and ` wakes PID REPLY` for each caller that is woken, in order. Memory: more was needed, and an allocation was
+/// refused.
 pub fn push_outcome(out: &mut Vec<u8>, outcome: &Outcome) -> Result<(), Memory>
     ensures { OnOk result (out.new.items ≡ out.old.items ++ outcome_text outcome.now) }
 {

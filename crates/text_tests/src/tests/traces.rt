@@ -121,7 +121,10 @@ fn is_refused(alloc: Global, script: &Script, line: &str) -> Result<bool, Fail>
 {
     let mut text = Vec::new(alloc);
     push(&mut text, line.as_bytes())?;
-    push(&mut text, b"\ntotals entries 1 processes 1 notready 0 refused 0\n")?;
+    push(
+        &mut text,
+        b"\ntotals entries 1 processes 1 notready 0 refused 0\n",
+    )?;
     let fault = read_trace(alloc, script, &text, 7).err();
     Ok(matches!(fault, Some(CheckFault::NotATrace { line: 7 })))
 }
@@ -162,7 +165,10 @@ fn removal(alloc: Global, short: usize, long: usize) -> Result<Vec<u8>, Fail> {
     for _ in 0..long {
         push(&mut text, b" wakes 20 EIDRM")?;
     }
-    push(&mut text, b"\ntotals entries 1 processes 1 notready 0 refused 74896\n")?;
+    push(
+        &mut text,
+        b"\ntotals entries 1 processes 1 notready 0 refused 74896\n",
+    )?;
     Ok(text)
 }
 
