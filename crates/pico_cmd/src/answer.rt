@@ -13,15 +13,12 @@ ghost use Rattle.pico_cmd.specs.Promise.{Simulates, fault_text};
 use crate::run::{Run, run_script};
 use crate::status::Status;
 use crate::telling::Telling;
-use pico_base::{Bytes, Event, Memory, Script, Sequence};
-use pico_run::Rested;
+use boxes_run::RestedList;
+use pico_base::{Bytes, Event, Memory, Script};
 use pico_words::Options;
 use script_reader::{ScriptFault, ScriptStop, read_script};
 use std::alloc::Global;
 use trace_text::{push, push_byte, push_number, write_steps};
-
-/// The outcomes of runs with threads that stand behind what was written.
-pub type RestedList = Sequence<Rested>;
 
 /// A status, the text that is written with it, and the outcomes of runs with threads that are handed back with it.
 #[derive(Drop)]
