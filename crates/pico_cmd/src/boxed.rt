@@ -1,16 +1,14 @@
 //! The answer to several sandboxes.
-ghost use Rattle.std.specs.Prelude.{◌≡◌, ◌<◌, ◌++◌, ℕ, List, [], length, map, IfOk, IfSome, IsSome};
+ghost use Rattle.std.specs.Prelude.{◌≡◌, ◌++◌, ℕ, List, map, IfOk, OnOk, IsSome};
 ghost use Rattle.std.specs.List.{AllByRecursion};
-ghost use Rattle.pico_base.specs.declared.script.Script.{Script as ScriptValue};
 ghost use Rattle.sandbox_set.specs.Boxes.{IsFirstFault, Reads};
 ghost use Rattle.sandbox_set.specs.Sound.{AreSound};
 ghost use Rattle.sandbox_set.specs.declared.fault.BoxFault.{BoxFault as FaultValue};
 ghost use Rattle.sandbox_set.specs.declared.read.Sandbox.{Sandbox as BoxValue};
-ghost use Rattle.sandbox_set.specs.Text.{named_trace};
-ghost use Rattle.pico_cmd.specs.Boxed.{AnswersBoxes, worlds_text};
+ghost use Rattle.pico_cmd.specs.Boxed.{AnswersBoxes, world_text, worlds_text};
 ghost use Rattle.pico_cmd.specs.Promise.{RunsBoxes, box_fault_text};
 
-use crate::answer::Answer;
+use crate::answer::{Answer, text_of_named_fault};
 use crate::laws::laws;
 use crate::status::Status;
 use boxes_run::{RestedList, run_all};
@@ -21,19 +19,12 @@ use sandbox_set::{BoxFault, BoxStop, Boxes, Sandbox, push_named_trace, read_boxe
 use std::alloc::Global;
 use std::sync::Wait;
 use std::thread::Threads;
-use trace_text::{push, push_byte, push_number};
 
 // The line that names the first fault of an input of sandboxes.
 fn text_of_box_fault(alloc: Global, line: u32, fault: BoxFault) -> Result<Bytes, Memory>
     ensures { IfOk result (λ text. text ≡ box_fault_text line fault) }
 {
-    let mut out = Vec::new(alloc);
-    push(&mut out, b"fault: line ")?;
-    push_number(&mut out, u64::from(line))?;
-    push(&mut out, b": ")?;
-    push(&mut out, fault.name().as_bytes())?;
-    push_byte(&mut out, b'\n')?;
-    Ok(Bytes::from_vec(out))
+    text_of_named_fault(alloc, line, fault.name())
 }
 
 // The names of sandboxes, in order.
@@ -50,8 +41,7 @@ fn names_of(alloc: Global, boxes: &[Sandbox]) -> Result<Vec<Bytes>, Memory>
 // Adds a sandbox's line, and the trace of its run.
 fn push_rested(out: &mut Vec<u8>, name: &Bytes, rested: &Rested) -> Result<(), Memory>
     requires { IsSome rested.now.world }
-    ensures { IfSome rested.now.world (λ w.
-        OnOk result (out.new.items ≡ out.old.items ++ named_trace name.now w.script w.journal)) }
+    ensures { OnOk result (out.new.items ≡ out.old.items ++ world_text name.now rested.now.world) }
 {
     let world = &rested.world;
     push_named_trace(
@@ -59,7 +49,8 @@ fn push_rested(out: &mut Vec<u8>, name: &Bytes, rested: &Rested) -> Result<(), M
         name.as_slice(),
         world.script(),
         world.journal().as_slice(),
-    )
+    )?;
+    Ok(())
 }
 
 // For each sandbox its line and its trace, in order.
