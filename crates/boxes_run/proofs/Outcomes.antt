@@ -14,7 +14,7 @@ use Rattle.boxes_run.specs.Runs.{AreRested, scripts_of}
 abbrev pub Outcome : Type 0
 Outcome = Result Rested Memory
 
--- an outcome at each place
+-- an outcome at each place is one of each job
 pub outcomes-by-place : (jobs : List Job) (outcomes : List Outcome) → length outcomes ≡ length jobs
     → ((k : ℕ) (j : Job) (o : Outcome) → k < length jobs
     → IfOk (slice_index_or outcomes k o) (IsRested (slice_index_or jobs k j).script)) → AreOutcomes jobs outcomes
@@ -61,6 +61,7 @@ rested-from before (b ∷ boxes) [] h = h
 rested-from before (b ∷ boxes) (r ∷ list) h =
     (h.0, rested-from (before + length b.script.blocks) boxes list h.1)
 
+-- what runs of all sandboxes gave is what each one's run may come to
 pub all-are-rested : (boxes : List Sandbox) (jobs : List Job) (outcomes : List Outcome) (list : List Rested)
     → jobs ≡ jobs_from 0 boxes → AreOutcomes jobs outcomes → map Ok list ≡ outcomes
     → AreRested (scripts_of boxes) list

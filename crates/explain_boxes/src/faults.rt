@@ -48,9 +48,17 @@ fn no_sandbox<'a>(alloc: Global, line: Line<'a>) -> Finding<'a>
         return without_line(alloc, line.number, "no line has words");
     }
     if begins(line) {
-        let (what, name) = (Text::plain("`sandbox` has one name behind it"), words.get(1));
+        let (what, word) = match (words.get(1), words.get(2)) {
+            (Some(name), None) => {
+                (Text::whole_in("`", name.text, "` is no name of a sandbox"), Some(name))
+            }
+            (_, word) => (
+                Text::plain("`sandbox` has one name behind it"),
+                word.or(words.get(0)),
+            ),
+        };
         let expected = "sandbox NAME: a small letter, then at most 31 of a to z, 0 to 9 and _";
-        return at(alloc, line, what, expected, span_of(name.or(words.get(0))));
+        return at(alloc, line, what, expected, span_of(word));
     }
     let what = Text::plain("this line stands outside any sandbox");
     at(alloc, line, what, BEGINS, span_of(words.get(0)))
@@ -87,6 +95,15 @@ fn named<'a>(bytes: &'a [u8], name: &[u8]) -> Option<Line<'a>> {
         }
     }
     None
+}
+
+// A sandbox ends that has no block.
+fn no_block<'a>(alloc: Global, line: Line<'a>) -> Finding<'a>
+    ensures { result.number ≡ Some line.number }
+{
+    let what = Text::plain("the sandbox has no block");
+    let expected = "a block before this line: proc main, then a line for each call, then end";
+    at(alloc, line, what, expected, span_of(Words::of(line.text).get(0)))
 }
 
 // A name that an earlier sandbox has.
@@ -161,7 +178,9 @@ pub fn explain_boxes<'a>(
 ) -> Result<Finding<'a>, AllocError>
     ensures { IfOk result (λ finding. finding.number ≡ Some number) }
 {
+    let is_empty = name == b"NoProc".as_slice() && Lines::of(alone).numbered(number).is_none();
     let own = match Lines::of(bytes).numbered(number) {
+        Some(line) if is_empty => Some(no_block(alloc, line)),
         Some(line) => of_line(alloc, bytes, line, name),
         None => of_end(alloc, bytes, number, name),
     };

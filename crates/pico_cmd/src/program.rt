@@ -286,8 +286,8 @@ fn write_answer<K: Sink>(sink: &mut K, answer: Answer) -> Ran
 /// - `boxes`: the source is up to 8 sandboxes, each a script of its own. All run at once with threads, as in `run`, and
 ///   the gate counts their nodes in order. For each its name and its trace are written.
 ///
-/// What `run`, `gen` and `boxes` come to is handed back, too: the journal, the events, the world at rest, and what each thread
-/// left.
+/// What `run`, `gen` and `boxes` come to is handed back, too: the journal, the events, the world at rest, and what each
+/// thread left.
 pub fn pico<R: Threads + Wait + Sync, S: Source, K: Sink, G: Gate>(
     rt: &R,
     alloc: Global,
