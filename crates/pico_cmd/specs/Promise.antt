@@ -118,8 +118,8 @@ Judges bytes s text = JudgesBytes bytes s text
 
 -- ---- `boxes`
 
--- The bytes are sandboxes, and the text is that of their runs with threads, whose outcomes are handed back. What is said
--- of each sandbox is said of its script alone, whatever the others are.
+-- The bytes are sandboxes, and the text is that of their runs with threads, whose outcomes are handed back. What is
+-- said of each sandbox is said of its script alone, whatever the others are.
 pub record AreTracesOfBoxes (bytes text : List ℕ) (rested : List Rested) : Type 0 where
   pub sandboxes : List Sandbox
   pub reads : boxes.Reads bytes sandboxes

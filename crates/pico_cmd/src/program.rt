@@ -297,9 +297,9 @@ pub fn pico<R: Threads + Wait + Sync, S: Source, K: Sink, G: Gate>(
     gate: &G,
 ) -> Ran
     // What is written with each status: the trace of a run of the script's processes, which is one history of a single
-    // POSIX kernel, or that a trace is legal, or the totals of a generated script's run, or such a
-    // trace for each of several sandboxes; the first fault of the script or of the sandboxes; the trace's first fault;
-    // or the usage line. Nothing is written where memory or the source failed.
+    // POSIX kernel, or that a trace is legal, or the totals of a generated script's run, or such a trace for each of
+    // several sandboxes; the first fault of the script or of the sandboxes; the trace's first fault; or the usage line.
+    // Nothing is written where memory or the source failed.
     ensures done { result.status ≡ Status.Done →
         Wrote (request_in (map string_bytes words.now)) (S.left source.old) Status.Done
         result.rested (K.taken sink.old) (K.taken sink.new) }
