@@ -252,17 +252,14 @@ fn the_totals_stand_alone(rt: HostRuntime) -> Result<(), Fail> {
     Ok(())
 }
 
-static EVENTS: [Event; 2] = [
-    Event::Run(Node(1)),
-    Event::Take {
-        node: Node(12),
-        from: Node(1),
-    },
-];
-
 #[test]
 fn events_have_a_line_each(rt: HostRuntime) -> Result<(), Fail> {
-    let text = write_steps(rt.alloc(), &EVENTS)?;
+    let (first, second) = (Node(1), Node(12));
+    let take = Event::Take {
+        node: second,
+        from: first,
+    };
+    let text = write_steps(rt.alloc(), &[Event::Run(first), take])?;
     assert!(rt; text.as_slice() == b"steps 2\nrun 1\ntake 12 from 1\n".as_slice());
     Ok(())
 }
