@@ -2,7 +2,9 @@
 ghost use Rattle.std.specs.Prelude.{IfOk};
 ghost use Rattle.kernel_model.specs.Script.{IsSoundScript};
 
-use pico_base::{Call, Entries, Entry, Errno, Event, Id, Name, Node, Outcome, Pid, Reply, Script};
+use pico_base::{
+    Call, Entries, Entry, Errno, Event, Id, Memory, Name, Node, Outcome, Pid, Reply, Script,
+};
 use script_reader::read_script;
 use std::alloc::Global;
 use std::test::Fail;
@@ -17,101 +19,143 @@ fn two_blocks(alloc: Global) -> Result<Script, Fail>
     Ok(read_script(alloc, b"proc main\nfork child\nend\nproc child\nend\n")?)
 }
 
-fn made_by_first(alloc: Global, call: Call, reply: Reply) -> Entry {
-    Entry {
+// One more entry of the first process, made by node 1.
+fn push_made(alloc: Global, entries: &mut Entries, call: Call, reply: Reply) -> Result<(), Memory> {
+    entries.push(Entry {
         pid: Pid(1),
         call,
         outcome: Outcome::reply(alloc, reply),
         by: Node(1),
-    }
+    })?;
+    Ok(())
 }
 
-// A fork, a receive that finds nothing and one from a queue that isn't there.
-fn three_entries(alloc: Global) -> Result<Entries, Fail> {
-    let receive = |id| Call::MsgRcv {
+// A receive that has this error.
+fn push_receive(alloc: Global, entries: &mut Entries, id: u32, error: Errno) -> Result<(), Memory> {
+    let call = Call::MsgRcv {
         id: Id(id),
         class: -2,
         size: 8,
         noerror: false,
         nowait: true,
     };
-    let fork = Call::Fork { block: Node(2) };
-    Ok(Entries::from_vec(vec![in alloc;
-        made_by_first(alloc, fork, Reply::Num(2)),
-        made_by_first(alloc, receive(1), Reply::Fail(Errno::Enomsg)),
-        made_by_first(alloc, receive(9), Reply::Fail(Errno::Einval)),
-    ]?))
+    push_made(alloc, entries, call, Reply::Fail(error))
 }
+
+// A fork, a receive that finds nothing and one from a queue that isn't there.
+fn three_entries(alloc: Global) -> Result<Entries, Memory> {
+    let mut entries = Entries::new(alloc);
+    push_made(
+        alloc,
+        &mut entries,
+        Call::Fork { block: Node(2) },
+        Reply::Num(2),
+    )?;
+    push_receive(alloc, &mut entries, 1, Errno::Enomsg)?;
+    push_receive(alloc, &mut entries, 9, Errno::Einval)?;
+    Ok(entries)
+}
+
+// Whether the trace of these entries is this text.
+fn is_written(alloc: Global, entries: &Entries, wanted: &str) -> Result<bool, Fail> {
+    let script = two_blocks(alloc)?;
+    Ok(write_trace(alloc, &script, entries)?.as_slice() == wanted.as_bytes())
+}
+
+// Whether the text is read as these entries.
+fn is_read(alloc: Global, text: &str, wanted: &Entries) -> Result<bool, Fail> {
+    let script = two_blocks(alloc)?;
+    Ok(read_trace(alloc, &script, text.as_bytes(), 7)? == *wanted)
+}
+
+const HISTORY: &str = concat!(
+    "1 fork child = 2 by 1\n",
+    "1 msgrcv 1 -2 8 nowait = ENOMSG by 1\n",
+    "1 msgrcv 9 -2 8 nowait = EINVAL by 1\n",
+    "totals entries 3 processes 2 notready 1 refused 1\n"
+);
 
 #[test]
 fn a_history_has_a_line_for_each_entry(rt: HostRuntime) -> Result<(), Fail> {
-    let alloc = rt.alloc();
-    let text = write_trace(alloc, &two_blocks(alloc)?, &three_entries(alloc)?)?;
-    let wanted = concat!(
-        "1 fork child = 2 by 1\n",
-        "1 msgrcv 1 -2 8 nowait = ENOMSG by 1\n",
-        "1 msgrcv 9 -2 8 nowait = EINVAL by 1\n",
-        "totals entries 3 processes 2 notready 1 refused 1\n"
-    );
-    assert_eq!(rt; text.as_slice(), wanted.as_bytes());
+    let entries = three_entries(rt.alloc())?;
+    assert!(rt; is_written(rt.alloc(), &entries, HISTORY)?);
     Ok(())
 }
 
 // A call that is withdrawn from a queue, a set, and `waitpid`.
-fn three_withdrawals(alloc: Global) -> Result<Entries, Fail> {
-    let withdrawal = |name| {
-        made_by_first(alloc, Call::Withdraw { name }, Reply::Fail(Errno::Eintr))
-    };
-    Ok(Entries::from_vec(vec![in alloc;
-        withdrawal(Name::Msg(Id(1))),
-        withdrawal(Name::Sem(Id(23))),
-        withdrawal(Name::Proc(Pid(1))),
-    ]?))
+fn three_withdrawals(alloc: Global) -> Result<Entries, Memory> {
+    let mut entries = Entries::new(alloc);
+    for name in [Name::Msg(Id(1)), Name::Sem(Id(23)), Name::Proc(Pid(1))] {
+        push_made(
+            alloc,
+            &mut entries,
+            Call::Withdraw { name },
+            Reply::Fail(Errno::Eintr),
+        )?;
+    }
+    Ok(entries)
 }
+
+const WITHDRAWALS: &str = concat!(
+    "1 withdraw msg 1 = EINTR by 1\n",
+    "1 withdraw sem 23 = EINTR by 1\n",
+    "1 withdraw proc 1 = EINTR by 1\n",
+    "totals entries 3 processes 1 notready 0 refused 3\n"
+);
 
 #[test]
 fn a_withdrawal_is_written_and_read_again(rt: HostRuntime) -> Result<(), Fail> {
-    let alloc = rt.alloc();
-    let script = two_blocks(alloc)?;
-    let text = write_trace(alloc, &script, &three_withdrawals(alloc)?)?;
-    let wanted = concat!(
-        "1 withdraw msg 1 = EINTR by 1\n",
-        "1 withdraw sem 23 = EINTR by 1\n",
-        "1 withdraw proc 1 = EINTR by 1\n",
-        "totals entries 3 processes 1 notready 0 refused 3\n"
-    );
-    assert_eq!(rt; text.as_slice(), wanted.as_bytes());
-    let entries = read_trace(alloc, &script, wanted.as_bytes(), 7)?;
-    assert_eq!(rt; entries, three_withdrawals(alloc)?);
+    let entries = three_withdrawals(rt.alloc())?;
+    assert!(rt; is_written(rt.alloc(), &entries, WITHDRAWALS)?);
+    assert!(rt; is_read(rt.alloc(), WITHDRAWALS, &entries)?);
     Ok(())
 }
 
-// A receive that parks, and a message that wakes its caller and another one.
-fn two_waits(alloc: Global) -> Result<Entries, Fail> {
-    let mut parked = made_by_first(alloc, Call::GetPid, Reply::Num(1));
-    parked.outcome.own = None;
-    let mut waking = made_by_first(alloc, Call::SigPending, Reply::Num(0));
-    waking
-        .outcome
-        .woken
-        .push((Pid(3), Reply::Fail(Errno::Enomsg)))?;
-    waking.outcome.woken.push((Pid(2), Reply::Num(7)))?;
-    Ok(Entries::from_vec(vec![in alloc; parked, waking]?))
+// A call that parks.
+fn push_parked(alloc: Global, entries: &mut Entries) -> Result<(), Memory> {
+    let mut outcome = Outcome::reply(alloc, Reply::Num(1));
+    outcome.own = None;
+    entries.push(Entry {
+        pid: Pid(1),
+        call: Call::GetPid,
+        outcome,
+        by: Node(1),
+    })?;
+    Ok(())
 }
+
+// A call that wakes two callers.
+fn push_waking(alloc: Global, entries: &mut Entries) -> Result<(), Memory> {
+    let mut outcome = Outcome::reply(alloc, Reply::Num(0));
+    outcome.woken.push((Pid(3), Reply::Fail(Errno::Enomsg)))?;
+    outcome.woken.push((Pid(2), Reply::Num(7)))?;
+    entries.push(Entry {
+        pid: Pid(1),
+        call: Call::SigPending,
+        outcome,
+        by: Node(1),
+    })?;
+    Ok(())
+}
+
+fn two_waits(alloc: Global) -> Result<Entries, Memory> {
+    let mut entries = Entries::new(alloc);
+    push_parked(alloc, &mut entries)?;
+    push_waking(alloc, &mut entries)?;
+    Ok(entries)
+}
+
+const WAITS: &str = concat!(
+    "1 getpid = parked by 1\n",
+    "1 sigpending = 0 by 1 wakes 3 ENOMSG wakes 2 7\n",
+    "totals entries 2 processes 1 notready 1 refused 0\n"
+);
 
 #[test]
 fn waits_are_written_and_read_again(rt: HostRuntime) -> Result<(), Fail> {
-    let alloc = rt.alloc();
-    let script = two_blocks(alloc)?;
-    let text = write_trace(alloc, &script, &two_waits(alloc)?)?;
-    let wanted = concat!(
-        "1 getpid = parked by 1\n",
-        "1 sigpending = 0 by 1 wakes 3 ENOMSG wakes 2 7\n",
-        "totals entries 2 processes 1 notready 1 refused 0\n"
-    );
-    assert_eq!(rt; text.as_slice(), wanted.as_bytes());
-    let entries = read_trace(alloc, &script, wanted.as_bytes(), 1)?;
-    assert_eq!(rt; entries, two_waits(alloc)?);
+    let entries = two_waits(rt.alloc())?;
+    assert!(rt; is_written(rt.alloc(), &entries, WAITS)?);
+    assert!(rt; is_read(rt.alloc(), WAITS, &entries)?);
     Ok(())
 }
 
@@ -130,7 +174,7 @@ fn is_refused(alloc: Global, script: &Script, line: &str) -> Result<bool, Fail>
 }
 
 // Lines with waits that a trace doesn't have.
-const NO_LINES: [&str; 12] = [
+static NO_LINES: [&str; 12] = [
     "1 getpid = parked",
     "1 getpid = parked 1 by 1",
     "1 getpid = Parked by 1",
@@ -149,8 +193,8 @@ const NO_LINES: [&str; 12] = [
 fn other_waits_are_no_lines(rt: HostRuntime) -> Result<(), Fail> {
     let alloc = rt.alloc();
     let script = two_blocks(alloc)?;
-    for line in NO_LINES {
-        assert!(rt; is_refused(alloc, &script, line)?);
+    for line in &NO_LINES {
+        assert!(rt; is_refused(alloc, &script, line)?, "{line}");
     }
     Ok(())
 }
@@ -175,25 +219,36 @@ fn removal(alloc: Global, short: usize, long: usize) -> Result<Vec<u8>, Fail> {
 // The first line has 24 + 14 * 74,888 + 15 * 8 bytes, which are 1,048,576; the second one has one more.
 #[test]
 fn a_line_may_have_a_mebibyte(rt: HostRuntime) -> Result<(), Fail> {
-    let alloc = rt.alloc();
-    let script = two_blocks(alloc)?;
-    let longest = removal(alloc, 74888, 8)?;
-    let entries = read_trace(alloc, &script, &longest, 1)?;
-    assert_eq!(rt; entries.len(), 1);
-    let longer = removal(alloc, 74887, 9)?;
-    let fault = read_trace(alloc, &script, &longer, 1).err();
-    assert!(rt; matches!(fault, Some(CheckFault::NotATrace { line: 1 })));
+    let script = two_blocks(rt.alloc())?;
+    let longest = removal(rt.alloc(), 74888, 8)?;
+    assert!(rt; read_trace(rt.alloc(), &script, &longest, 1)?.len() == 1);
     Ok(())
+}
+
+// Whether the text is refused at its first line.
+fn is_no_trace(alloc: Global, text: &[u8]) -> Result<bool, Fail> {
+    let script = two_blocks(alloc)?;
+    let fault = read_trace(alloc, &script, text, 1).err();
+    Ok(matches!(fault, Some(CheckFault::NotATrace { line: 1 })))
+}
+
+#[test]
+fn a_line_may_not_have_more(rt: HostRuntime) -> Result<(), Fail> {
+    let longer = removal(rt.alloc(), 74887, 9)?;
+    assert!(rt; is_no_trace(rt.alloc(), &longer)?);
+    Ok(())
+}
+
+// Whether the totals of these entries are this text.
+fn are_totals(alloc: Global, entries: &Entries, wanted: &[u8]) -> Result<bool, Memory> {
+    Ok(write_totals(alloc, entries)?.as_slice() == wanted)
 }
 
 #[test]
 fn the_totals_stand_alone(rt: HostRuntime) -> Result<(), Fail> {
-    let alloc = rt.alloc();
-    let text = write_totals(alloc, &three_entries(alloc)?)?;
-    assert_eq!(rt;
-        text.as_slice(),
-        b"totals entries 3 processes 2 notready 1 refused 1\n".as_slice()
-    );
+    let entries = three_entries(rt.alloc())?;
+    let wanted = b"totals entries 3 processes 2 notready 1 refused 1\n";
+    assert!(rt; are_totals(rt.alloc(), &entries, wanted)?);
     Ok(())
 }
 
@@ -205,10 +260,7 @@ fn events_have_a_line_each(rt: HostRuntime) -> Result<(), Fail> {
         from: first,
     };
     let text = write_steps(rt.alloc(), &[Event::Run(first), take])?;
-    assert_eq!(rt;
-        text.as_slice(),
-        b"steps 2\nrun 1\ntake 12 from 1\n".as_slice()
-    );
+    assert!(rt; text.as_slice() == b"steps 2\nrun 1\ntake 12 from 1\n".as_slice());
     Ok(())
 }
 
@@ -218,7 +270,7 @@ fn a_text_is_put_together(rt: HostRuntime) -> Result<(), Fail> {
     push(&mut out, b"line ")?;
     push_number(&mut out, 18446744073709551615)?;
     push_byte(&mut out, b'.')?;
-    assert_eq!(rt; out.as_slice(), b"line 18446744073709551615.".as_slice());
+    assert!(rt; out.as_slice() == b"line 18446744073709551615.".as_slice());
     Ok(())
 }
 
@@ -270,13 +322,16 @@ const TRACE: &str = concat!(
     "totals entries 42 processes 2 notready 2 refused 9\n"
 );
 
+// The entries of the trace.
+fn read_back(alloc: Global) -> Result<Entries, Fail> {
+    let script = two_blocks(alloc)?;
+    Ok(read_trace(alloc, &script, TRACE.as_bytes(), 1)?)
+}
+
 #[test]
 fn a_trace_is_read_and_written_again(rt: HostRuntime) -> Result<(), Fail> {
-    let alloc = rt.alloc();
-    let script = two_blocks(alloc)?;
-    let entries = read_trace(alloc, &script, TRACE.as_bytes(), 1)?;
-    assert_eq!(rt; entries.len(), 42);
-    let text = write_trace(alloc, &script, &entries)?;
-    assert_eq!(rt; text.as_slice(), TRACE.as_bytes());
+    let entries = read_back(rt.alloc())?;
+    assert!(rt; entries.len() == 42);
+    assert!(rt; is_written(rt.alloc(), &entries, TRACE)?);
     Ok(())
 }
