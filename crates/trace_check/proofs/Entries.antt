@@ -16,7 +16,7 @@ use Rattle.kernel_model.specs.History.{number_in}
 use Rattle.kernel_model.specs.Script.{IsSoundScript}
 use Rattle.kernel_model.specs.Fitting.{Place, IsDue, due, is_killed}
 use Rattle.waiting_model.specs.Calls.{withdrawn_from}
-use Rattle.waiting_model.specs.Marks.{Alive, is_parked_at}
+use Rattle.waiting_model.specs.Marks.{is_parked_at}
 use Rattle.waiting_model.specs.Kernel.{Kernel, living_at}
 use Rattle.waiting_model.specs.Transition.{Successor, successor, transition}
 use Rattle.waiting_model.specs.Fitting.{IsNext, Progress, places_after}

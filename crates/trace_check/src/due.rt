@@ -144,12 +144,7 @@ fn is_parked_at(pid: Pid, name: &Name, call: &Option<Call>) -> bool
 }
 
 /// Whether the process waits at this name.
-fn may_withdraw(
-    script: &Script,
-    pid: Pid,
-    cursor: &Cursor,
-    name: &Name,
-) -> Result<bool, Memory>
+fn may_withdraw(script: &Script, pid: Pid, cursor: &Cursor, name: &Name) -> Result<bool, Memory>
     requires { IsSoundScript script.now }
     ensures { IfOk result (λ may. may ≡ ((progress_of script.now cursor.now).parked
         && is_parked_at pid name.now (due (place_of script.now cursor.now)))) }

@@ -180,12 +180,7 @@ fn make(
 }
 
 /// One who is woken goes on with its reply.
-fn wake(
-    script: &Script,
-    cursors: &mut Cursors,
-    pid: Pid,
-    reply: &Reply,
-) -> Result<(), Memory>
+fn wake(script: &Script, cursors: &mut Cursors, pid: Pid, reply: &Reply) -> Result<(), Memory>
     requires { AreSteady script.now cursors.old.entries }
     ensures woken { OnOk result (cursors.new.entries
         ≡ after_woken script.now cursors.old.entries (pid, reply.now)) }
@@ -198,11 +193,7 @@ fn wake(
 }
 
 /// All who are woken go on.
-fn wake_all(
-    script: &Script,
-    cursors: &mut Cursors,
-    woken: &[(Pid, Reply)],
-) -> Result<(), Memory>
+fn wake_all(script: &Script, cursors: &mut Cursors, woken: &[(Pid, Reply)]) -> Result<(), Memory>
     requires { AreSteady script.now cursors.old.entries }
     ensures woken { OnOk result (cursors.new.entries
         ≡ fold (after_woken script.now) cursors.old.entries woken.now) }

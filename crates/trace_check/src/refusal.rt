@@ -59,11 +59,7 @@ fn push_calls(
 }
 
 /// What the call comes to in the kernel, and by the trace.
-fn push_outcomes(
-    out: &mut Vec<u8>,
-    kernel: &Option<Outcome>,
-    trace: &Outcome,
-) -> Result<(), Memory>
+fn push_outcomes(out: &mut Vec<u8>, kernel: &Option<Outcome>, trace: &Outcome) -> Result<(), Memory>
     ensures { OnOk result (out.new.items ≡ out.old.items ++ spec.outcomes_text kernel.now trace.now) }
 {
     push(out, b"kernel ")?;
