@@ -24,7 +24,7 @@ use Rattle.trace_check.specs.declared.check.Legal.{Legal}
 use Rattle.trace_check.specs.FirstFault.{SoFar, at_opening, judge_entry, judge_line, judge_from, first_going, verdict_of, Gives, IsLegalTrace}
 use Rattle.trace_check.proofs.Entries.{goes-on-judged}
 use Rattle.trace_check.proofs.Follows.{none-going}
-use Rattle.trace_check.proofs.Waits.{WaitAsMarked, wait-opening, wait-step}
+use Rattle.trace_check.proofs.Waits.{MarkLaws, WaitAsMarked, wait-opening, wait-step}
 
 -- what stands behind the same list is the same
 same-behind : (done more rest : List Entry) → done ++ more ≡ done ++ rest → more ≡ rest
@@ -63,7 +63,7 @@ pub record Ends (script : Script) (h done : List Entry) (so_far : SoFar) : Type 
   pub fits : FitsFrom script so_far.places more places
   pub over : AllByRecursion IsOver places
 
-module _ (script : Script) (sound : IsSoundScript script) (h : List Entry) where
+module _ (laws : MarkLaws) (script : Script) (sound : IsSoundScript script) (h : List Entry) where
   -- the next entry of such a history, and what it leads to
   record Next (done : List Entry) (line : ℕ) (so_far : SoFar) (e : Entry) : Type 0 where
     next : SoFar
@@ -88,7 +88,7 @@ module _ (script : Script) (sound : IsSoundScript script) (h : List Entry) where
               more = rest;
               is = ends.is ∙ ap (λ (es : List Entry). done ++ es) same ∙ sym (append_assoc done (e ∷ []) rest);
               replayed = replays-more done opening so_far.kernel replay.next e ends.replayed replay.step;
-              waits = wait-step script done so_far.kernel ends.replayed e so_far.places fit.progress replay.next
+              waits = wait-step laws script done so_far.kernel ends.replayed e so_far.places fit.progress replay.next
                   replay.step ends.waits fit.there fit.next;
               kernel = ends.kernel;
               replays = replay.rest;

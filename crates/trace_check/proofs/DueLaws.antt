@@ -1,18 +1,15 @@
 -- Which call is due, and what may come, as the code finds it.
-use Rattle.std.proofs.Common.{◌≡◌, ◌∙◌, ℕ, Bool, true, false, not, ◌&&◌, ◌||◌, Option, Some, None, is_some, refl, sym, ap}
+use Rattle.std.proofs.Common.{◌≡◌, ◌∙◌, ℕ, Bool, true, false, ◌&&◌, ◌||◌, Option, Some, None, is_some, refl, sym, ap}
 use Rattle.std.specs.Prelude.{Result, Ok, Err, IfOk, IfSome, if◌then◌else◌}
 use Rattle.std.specs.Option.{option_and_then, option_map, option_map_or}
 use Rattle.pico_base.specs.declared.call.Call.{Call}
-use Rattle.pico_base.specs.declared.call.Call.TheVariants as calls
 use Rattle.pico_base.specs.declared.call.Call.TheVariants.{Killed}
 use Rattle.pico_base.specs.declared.fault.Memory.{Memory}
-use Rattle.pico_base.specs.declared.numbers.Name.{Name}
 use Rattle.pico_base.specs.declared.script.Script.{Script}
 use Rattle.pico_base.specs.declared.signal.Sig.{Sig}
 use Rattle.number_maps.specs.Maps.{Numbered, get}
-use Rattle.kernel_model.specs.Fitting.{Place, due, is_killed}
+use Rattle.kernel_model.specs.Fitting.{due, is_killed}
 use Rattle.waiting_model.specs.Fitting.{Progress}
-use Rattle.waiting_model.specs.Marks.{is_parked_at}
 use Rattle.trace_check.specs.declared.cursor.Cursor.{Cursor}
 use Rattle.trace_check.specs.Cursors.{due_in, may_come_in, progress_of}
 use Rattle.trace_check.specs.FirstFault.{due_by, due_of, is_same_call, may_follow, may_stand, withdrawal}

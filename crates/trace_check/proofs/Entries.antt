@@ -16,17 +16,17 @@ use Rattle.kernel_model.specs.History.{number_in}
 use Rattle.kernel_model.specs.Script.{IsSoundScript}
 use Rattle.kernel_model.specs.Fitting.{Place, IsDue, due, is_killed}
 use Rattle.waiting_model.specs.Calls.{withdrawn_from}
-use Rattle.waiting_model.specs.Marks.{Alive, is_parked_at}
+use Rattle.waiting_model.specs.Marks.{is_parked_at}
 use Rattle.waiting_model.specs.Kernel.{Kernel, living_at}
 use Rattle.waiting_model.specs.Transition.{Successor, successor, transition}
 use Rattle.waiting_model.specs.Fitting.{IsNext, Progress, places_after}
 use Rattle.waiting_laws.specs.Parked.{mark_of, mark_in}
-use Rattle.waiting_laws.proofs.Steps.{Makes, makes, Leaves, leaves}
 use Rattle.trace_text.specs.Grammar.{is_call, is_entry, is_outcome}
 use Rattle.trace_text.specs.declared.fault.CheckFault.TheVariants.{Illegal, NotTheScript}
 use Rattle.trace_text.proofs.EntryLaws.{in-grammar}
 use Rattle.trace_check.specs.FirstFault.{SoFar, last_doom, doom_at, due_by, due_at, is_same_call, may_stand, may_follow, may_come, is_same_outcome, judge_outcome, or_fault, places_with, with_call, judge_entry}
 use Rattle.trace_check.proofs.SameTexts.{same-call, call-itself, same-outcome, outcome-itself}
+use Rattle.trace_check.proofs.Carried.{makes, leaves}
 use Rattle.trace_check.proofs.Kernels.{spent-ends, doom-ends, last-is}
 
 -- an entry goes on: the kernel has its outcome, and its call was next

@@ -1,5 +1,5 @@
 -- Who may make which call, and by which signal a process ends that may have no further entry.
-use Rattle.std.proofs.Common.{◌≡◌, ◌∙◌, Bool, true, false, not, ◌&&◌, cond, Option, Some, None, is_some, refl, sym, ap}
+use Rattle.std.proofs.Common.{◌≡◌, ◌∙◌, Bool, true, false, not, cond, Option, Some, None, is_some, refl, sym, ap}
 use Rattle.std.proofs.lemmas.Bool.{and_parts, eqb-true}
 use Rattle.std.proofs.lemmas.Option.{same_Some}
 use Rattle.pico_base.specs.declared.call.Call.{Call}

@@ -1,3 +1,4 @@
+pub mod Carried
 pub mod Cases
 pub mod Completes
 pub mod CursorLaws

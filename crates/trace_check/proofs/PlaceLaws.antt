@@ -1,17 +1,13 @@
 -- How far the processes are that the code keeps is how far those of the history are.
-use Rattle.std.proofs.Common.{◌≡◌, ◌∙◌, ℕ, ◌+◌, Bool, true, false, cond, not, ◌&&◌, nat_lt, List, [], ◌∷◌, drop, map, Option, Some, None, is_some, IsTrue, IfSome, refl, sym, ap, subst, Ordering}
-use Rattle.std.specs.Prelude.{slice_get, fold}
+use Rattle.std.proofs.Common.{◌≡◌, ◌∙◌, ℕ, ◌+◌, Bool, true, false, cond, not, [], ◌∷◌, drop, map, Option, Some, None, is_some, IsTrue, IfSome, refl, sym, ap, subst, Ordering}
+use Rattle.std.specs.Prelude.{slice_get}
 use Rattle.std.specs.declared.cmp.Ordering.TheVariants.{Less, Equal, Greater}
 use Rattle.std.specs.Ordering.{nat_cmp, match_ordering}
 use Rattle.std.specs.Option.{option_map, option_and_then, option_map_or}
 use Rattle.std.specs.BTreeMap.{is_at}
-use Rattle.std.specs.Map.{set_value}
-use Rattle.std.specs.List.{AllByRecursion}
 use Rattle.std.proofs.lemmas.Bool.{and_parts}
-use Rattle.std.proofs.lemmas.Option.{same_Some}
 use Rattle.pico_base.specs.declared.call.Call.{Call}
 use Rattle.pico_base.specs.declared.call.Call.TheVariants as calls
-use Rattle.pico_base.specs.declared.reply.Outcome.{Outcome}
 use Rattle.pico_base.specs.declared.reply.Reply.{Reply}
 use Rattle.pico_base.specs.declared.reply.Reply.TheVariants as replies
 use Rattle.pico_base.specs.declared.script.Block.{Block}
@@ -19,10 +15,8 @@ use Rattle.pico_base.specs.declared.script.Line.{Line}
 use Rattle.pico_base.specs.declared.script.Script.{Script}
 use Rattle.pico_base.specs.declared.signal.Sig.{Sig}
 use Rattle.number_maps.specs.Maps.{Numbered, get, put}
-use Rattle.number_maps.specs.Rising.{IsRising}
-use Rattle.number_maps.proofs.Changes.{set_value-put}
 use Rattle.kernel_model.specs.Script.{Vars}
-use Rattle.kernel_model.specs.Fitting.{Place, block_at, block_place, child_vars, child_vars_at, due, is_due_again, is_killed, move_on, place_after, set_variable, vars_after}
+use Rattle.kernel_model.specs.Fitting.{Place, block_at, block_place, child_vars, due, is_due_again, is_killed, move_on, place_after, vars_after}
 use Rattle.waiting_model.specs.Kernel.{Kernel, living_at}
 use Rattle.waiting_model.specs.Fitting.{Progress, Places, after_entry, after_fork, after_wake, at_place, places_after}
 use Rattle.waiting_model.specs.Fitting as fitting
@@ -30,10 +24,9 @@ use Rattle.node_model.specs.Caller.{answer_at, end_call, lines_in, lines_of}
 use Rattle.node_calls.specs.Caller as callers
 use Rattle.node_calls.specs.Caller.{BlockCaller}
 use Rattle.node_calls.proofs.PlaceLemmas.{place-moves}
-use Rattle.node_calls.proofs.VariableLemmas.{rising-put}
 use Rattle.trace_check.specs.declared.cursor.Cursor.{Cursor}
-use Rattle.trace_check.specs.Cursors.{IsIdle, IsSteady, AreSteady, MayMake, MayMakeAt, ended_if, place_of, progress_of, beginning, moved, parked, parked_with, answered, answered_with, after_call, after_made, after_woken, woken_at, places_of, due_in, may_come_in, forked_by, with_forked, moved_at, moved_on}
-use Rattle.trace_check.specs.FirstFault.{due_at, due_of, due_by, may_come, may_follow, may_stand, last_doom, places_with}
+use Rattle.trace_check.specs.Cursors.{IsIdle, IsSteady, MayMake, MayMakeAt, ended_if, place_of, progress_of, beginning, moved, parked_with, answered, answered_with, after_call, after_made, places_of, due_in, may_come_in, forked_by, with_forked}
+use Rattle.trace_check.specs.FirstFault.{due_at, due_of, due_by, may_come, may_follow, may_stand, last_doom}
 use Rattle.trace_check.specs.Judging.{so_far_of}
 use Rattle.trace_check.proofs.CursorLaws.{has-line}
 

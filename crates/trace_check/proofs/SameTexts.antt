@@ -1,5 +1,5 @@
 -- What has the same text in the grammar of a trace is the same.
-use Rattle.std.proofs.Common.{◌≡◌, ◌∙◌, ℕ, true, ◌&&◌, nat_eq, List, [], ◌∷◌, ◌++◌, Option, Some, None, refl, sym, ap}
+use Rattle.std.proofs.Common.{◌≡◌, ◌∙◌, ℕ, true, ◌&&◌, nat_eq, List, [], ◌∷◌, ◌++◌, Option, Some, None, refl, sym, ap, subst}
 use Rattle.std.specs.Prelude.{bytes_eq, if◌then◌else◌}
 use Rattle.std.specs.List.{list_all}
 use Rattle.std.proofs.lemmas.Bool.{and_parts, and_from, eqb-true, eq-eqb}
@@ -48,6 +48,12 @@ call-itself script call there =
     and_from (is_call script call) (bytes_eq (call_text script call) (call_text script call)) there
     ((bytes_eq-Decides (call_text script call) (call_text script call)).1 refl)
 
+-- so an equal call has its text
+pub equal-call : (script : Script) (call other : Call) → is_call script call ≡ true → call ≡ other
+    → true ≡ is_same_call script call other
+equal-call script call other there same =
+    sym (subst (λ (c : Call). is_same_call script call c ≡ true) same (call-itself script call there))
+
 -- Replies.
 
 -- a reply that has the text of one in the grammar is that reply
@@ -68,6 +74,11 @@ reply-itself : (reply : Reply) → is_reply reply ≡ true → is_same_reply rep
 reply-itself reply there =
     and_from (is_reply reply) (bytes_eq (reply_text reply) (reply_text reply)) there
     ((bytes_eq-Decides (reply_text reply) (reply_text reply)).1 refl)
+
+-- so an equal reply has its text
+pub equal-reply : (reply other : Reply) → is_reply reply ≡ true → reply ≡ other → true ≡ is_same_reply reply other
+equal-reply reply other there same =
+    sym (subst (λ (r : Reply). is_same_reply reply r ≡ true) same (reply-itself reply there))
 
 -- Outcomes.
 

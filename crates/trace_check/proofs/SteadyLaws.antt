@@ -1,5 +1,5 @@
 -- Cursors stay steady, and those who are woken go on as in a history.
-use Rattle.std.proofs.Common.{◌≡◌, ◌∙◌, ℕ, ◌+◌, Bool, true, false, cond, List, [], ◌∷◌, Option, Some, None, is_some, IfSome, refl, sym, ap, subst, Ordering}
+use Rattle.std.proofs.Common.{◌≡◌, ◌∙◌, ℕ, ◌+◌, Bool, true, false, cond, List, [], ◌∷◌, Option, Some, None, IfSome, refl, sym, ap, subst, Ordering}
 use Rattle.std.specs.Prelude.{slice_get, fold}
 use Rattle.std.specs.declared.cmp.Ordering.TheVariants.{Less, Equal, Greater}
 use Rattle.std.specs.Ordering.{nat_cmp, match_ordering}
@@ -19,7 +19,7 @@ use Rattle.number_maps.specs.Maps.{Numbered, get, put}
 use Rattle.number_maps.specs.Rising.{IsRising}
 use Rattle.number_maps.proofs.Changes.{set_value-put}
 use Rattle.kernel_model.specs.Script.{Vars}
-use Rattle.kernel_model.specs.Fitting.{Place, child_vars, child_vars_at, due, is_due_again, is_killed, set_variable, value_in, vars_after}
+use Rattle.kernel_model.specs.Fitting.{Place, child_vars, child_vars_at, due, is_due_again, is_killed, set_variable, value_in}
 use Rattle.waiting_model.specs.Fitting.{Progress, Places, after_entry, after_fork, after_wake}
 use Rattle.waiting_model.specs.Fitting as fitting
 use Rattle.node_model.specs.Caller.{answer_at, end_call, lines_of}
@@ -27,7 +27,7 @@ use Rattle.node_calls.specs.Caller as callers
 use Rattle.node_calls.specs.Caller.{BlockCaller}
 use Rattle.node_calls.proofs.VariableLemmas.{rising-put}
 use Rattle.trace_check.specs.declared.cursor.Cursor.{Cursor}
-use Rattle.trace_check.specs.Cursors.{IsIdle, IsSteady, AreSteady, MayMake, MayMakeAt, ended_if, place_of, progress_of, beginning, moved, parked, parked_with, answered, answered_with, after_call, after_made, after_woken, woken_at, places_of, forked_by, with_forked, moved_at, moved_on}
+use Rattle.trace_check.specs.Cursors.{IsIdle, IsSteady, AreSteady, MayMake, MayMakeAt, ended_if, place_of, progress_of, beginning, parked_with, answered, answered_with, after_call, after_made, after_woken, woken_at, places_of, forked_by, with_forked, moved_at, moved_on}
 use Rattle.trace_check.specs.FirstFault.{places_with}
 use Rattle.trace_check.proofs.PlaceLaws.{answers, idle-answered, makes, progress-at, progress-put}
 

@@ -1,7 +1,8 @@
 -- Where a fitting history has a process's call wait, the kernel has it parked with that call.
-use Rattle.std.proofs.Common.{◌≡◌, ◌≢◌, ◌∙◌, ℕ, Bool, true, false, nat_eq, List, [], ◌∷◌, Option, Some, None, refl, ap, sym, subst, inl, inr}
+use Rattle.std.proofs.Common.{◌≡◌, ◌≢◌, ◌∙◌, ℕ, Bool, true, false, ◌||◌, nat_eq, List, [], ◌∷◌, Option, Some, None, refl, ap, sym, subst, inl, inr}
 use Rattle.std.specs.Prelude.{if◌then◌else◌, fold}
 use Rattle.std.proofs.lemmas.Bool.{false≢true, cases_eq}
+use Rattle.std.proofs.lemmas.Option.{same_Some}
 use Rattle.pico_base.specs.declared.call.Call.{Call}
 use Rattle.pico_base.specs.declared.call.Call.TheVariants as calls
 use Rattle.pico_base.specs.declared.reply.Ending.TheVariants as endings
@@ -21,13 +22,19 @@ use Rattle.waiting_model.specs.Transition.{Successor, successor, transition}
 use Rattle.waiting_model.specs.History.{Replays}
 use Rattle.waiting_model.specs.Fitting.{IsNext, Places, Progress, after_entry, answered, after_fork, after_wake, after_woken, at_place, opening_places, places_after, woken_at}
 use Rattle.waiting_laws.specs.Parked.{mark_in}
-use Rattle.waiting_laws.specs.Woken.{WakesRightly, woken_in}
-use Rattle.waiting_laws.specs.MarkMoves.{MovesMarks, own_mark}
-use Rattle.waiting_laws.proofs.MarkMoves.{reachable-moves}
-use Rattle.waiting_laws.proofs.Options.{same-some, some-isnt-none}
-use Rattle.waiting_laws.proofs.Parked.{two-tests}
-use Rattle.waiting_laws.proofs.Steps.{Makes, makes, Leaves, leaves}
-use Rattle.waiting_laws.proofs.Woken.{reachable-wakes}
+use Rattle.waiting_laws.specs.Woken.{ReachableEntriesWakeRightly, WakesRightly, woken_in}
+use Rattle.waiting_laws.specs.MarkMoves.{MovesMarks, ReachableEntriesMoveMarks, own_mark}
+use Rattle.trace_check.proofs.Carried.{Makes, makes, Leaves, leaves}
+
+some-isnt-none : {A B : Type 0} (a : A) (o : Option A) → o ≡ Some a → o ≡ None → B
+some-isnt-none a o some none = absurd (cc)
+
+two-tests : (x y : Bool) (m : Option Call)
+    → (if y then None else (if x then None else m)) ≡ (if x || y then None else m)
+two-tests true true m = refl
+two-tests true false m = refl
+two-tests false true m = refl
+two-tests false false m = refl
 
 -- each process whose call waits is marked with that call
 abbrev pub WaitAsMarked : Places → (ℕ → Option Call) → Type 0
@@ -42,7 +49,7 @@ wait-put places n p marks after were now others q r there waits =
     elim (cases_eq q n) [
       | inl same ↦
           let is : p ≡ r =
-          same-some p r
+          same_Some p r
           (sym (get-put-same places n p) ∙ subst (λ (i : ℕ). get (put places n p) i ≡ Some r) same there)
           in subst (λ (x : Progress). after q ≡ due x.place) is
           (subst (λ (i : ℕ). after i ≡ due p.place) (sym same)
@@ -112,7 +119,7 @@ replied k pid (calls.Withdraw name) n s is =
 replied k pid (calls.Killed sig) n s is =
     let m : Makes k pid (calls.Killed sig) n s = makes k pid (calls.Killed sig) n s refl is
     in let same : end_process k pid m.alive (endings.Killed sig) ≡ m.step =
-    same-some (end_process k pid m.alive (endings.Killed sig)) m.step m.does
+    same_Some (end_process k pid m.alive (endings.Killed sig)) m.step m.does
     in subst (λ (o : Option Reply). IsReplied (calls.Killed sig) o)
     (ap (λ (x : Effect). x.own) same ∙ ap (λ (t : Successor). t.outcome.own) m.is) tt
 replied k pid call n s is = tt
@@ -159,13 +166,18 @@ moved-marks k e next moves wakes q = moves q ∙ by_test (nat_eq e.pid q) refl
         (ap (λ (c : Bool). (if c then None else own_mark e.call e.outcome.own))
         (subst (λ (i : ℕ). woken_in i e.outcome.woken ≡ false) (same-from-nat_eq e.pid q is) wakes.others))
 
+-- The laws of the marks behind each legal history.
+pub record MarkLaws : Type 0 where
+  pub move : ReachableEntriesMoveMarks
+  pub wake : ReachableEntriesWakeRightly
+
 -- behind a legal history an entry that is next leaves it so
-pub wait-step : (script : Script) (h : List Entry) (k : Kernel) → Replays opening h k → (e : Entry)
+pub wait-step : MarkLaws → (script : Script) (h : List Entry) (k : Kernel) → Replays opening h k → (e : Entry)
     → (places : Places) (p : Progress) (next : Kernel)
     → transition k e.pid e.call (number_in e.outcome.own) ≡ Some (successor next e.outcome)
     → WaitAsMarked places (λ q. mark_in k.processes q) → get places e.pid ≡ Some p → IsNext p e.call
     → WaitAsMarked (places_after script places e p) (λ q. mark_in next.processes q)
-wait-step script h k replays e places p next step were there is =
+wait-step laws script h k replays e places p next step were there is =
     let s : Successor = successor next e.outcome
     in let n : ℕ = number_in e.outcome.own
     in let marks : ℕ → Option Call = marks_behind k e
@@ -183,8 +195,8 @@ wait-step script h k replays e places p next step were there is =
     in wait-marks (places_after script places e p)
     (λ q. if woken_in q e.outcome.woken then None else marks q) (λ q. mark_in next.processes q)
     (wait-woken e.outcome.woken (after_fork script mid p.place e.call e.outcome.own) marks forked_too)
-    (moved-marks k e next (reachable-moves h k replays e.pid e.call n s step)
-    (reachable-wakes h k replays e.pid e.call n s step))
+    (moved-marks k e next (laws.move h k replays e.pid e.call n s step)
+    (laws.wake h k replays e.pid e.call n s step))
 
 -- at the opening nobody waits
 pub wait-opening : (script : Script) → WaitAsMarked (opening_places script) (λ q. mark_in opening.processes q)
@@ -192,7 +204,7 @@ wait-opening script q p there waits =
     elim (cases_eq q 1) [
       | inl same ↦
           let is : at_place (block_place (block_at script 1) []) ≡ p =
-          same-some (at_place (block_place (block_at script 1) [])) p
+          same_Some (at_place (block_place (block_at script 1) [])) p
           (subst (λ (i : ℕ). get (opening_places script) i ≡ Some p) same there)
           in absurd (false≢true (ap (λ (x : Progress). x.parked) is ∙ waits))
       | inr ne ↦

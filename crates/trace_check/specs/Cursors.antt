@@ -1,5 +1,5 @@
 -- The processes of a history, each with its place in its block and the call that waits there, as the code keeps them.
-use Rattle.std.specs.Prelude.{◌≡◌, ℕ, Bool, true, false, not, ◌&&◌, List, [], ◌∷◌, map, fold, if◌then◌else◌, Option, Some, None, is_some, IsTrue, IfSome}
+use Rattle.std.specs.Prelude.{◌≡◌, ℕ, Bool, true, false, [], map, fold, if◌then◌else◌, Option, Some, None, is_some, IsTrue, IfSome}
 use Rattle.std.specs.List.{AllByRecursion}
 use Rattle.std.specs.Option.{option_and_then, option_map_or}
 use Rattle.pico_base.specs.declared.call.Call.{Call}

@@ -8,6 +8,7 @@ use crate::judge::Judge;
 use pico_base::Script;
 use std::alloc::Global;
 use trace_text::{CheckFault, MAX_TRACE, entry_in, fits, next_line};
+use waiting_laws::{entries_move_marks, entries_wake_rightly};
 
 /// The bytes are the text, with any nodes, of a history that is legal and fits the script whole.
 #[derive(Clone, Copy, Debug, PartialEq, Eq)]
@@ -80,5 +81,8 @@ pub fn check_trace(
     ensures only { (history : List EntryValue) → IsLegalTrace script.now bytes.now history
         → (result ≡ Ok (record { entries = length history })) ⊎ (result ≡ Err CheckFault.Memory) }
 {
+    // Laws of the kernel by which a legal trace is judged to be one.
+    entries_move_marks();
+    entries_wake_rightly();
     judge(alloc, script, bytes, first_line)
 }

@@ -1,5 +1,5 @@
 //! Whether two calls, or two outcomes, are the same: their texts are.
-ghost use Rattle.std.specs.Prelude.{◌≡◌, ◌&&◌, nat_eq, IfOk};
+ghost use Rattle.std.specs.Prelude.{◌≡◌, ◌&&◌, nat_eq, IfOk, IsTrue};
 ghost use Rattle.trace_check.specs.FirstFault as spec;
 
 use pico_base::{Call, Memory, Outcome, Pid, Reply, Script};
@@ -22,6 +22,51 @@ impl Texts {
     }
 }
 
+/// Whether both are the same call on a queue. This is asked before texts are printed, since a message's may be long.
+fn is_equal_call(call: &Call, other: &Call) -> bool
+    ensures { IsTrue result → call.now ≡ other.now }
+{
+    match (call, other) {
+        (
+            Call::MsgSnd {
+                id,
+                class,
+                text,
+                nowait,
+            },
+            Call::MsgSnd {
+                id: its_id,
+                class: its_class,
+                text: its_text,
+                nowait: its_nowait,
+            },
+        ) => {
+            *id == *its_id
+                && *class == *its_class
+                && *nowait == *its_nowait
+                && text.as_slice() == its_text.as_slice()
+        }
+        _ => false,
+    }
+}
+
+/// Whether both are the same number or the same message.
+fn is_equal_reply(reply: &Reply, other: &Reply) -> bool
+    ensures { IsTrue result → reply.now ≡ other.now }
+{
+    match (reply, other) {
+        (Reply::Num(number), Reply::Num(its_number)) => *number == *its_number,
+        (
+            Reply::Message { class, text },
+            Reply::Message {
+                class: its_class,
+                text: its_text,
+            },
+        ) => *class == *its_class && text.as_slice() == its_text.as_slice(),
+        _ => false,
+    }
+}
+
 /// Whether the call is in the grammar of a trace, and has the text of the other.
 pub(crate) fn is_same_call(
     script: &Script,
@@ -33,6 +78,9 @@ pub(crate) fn is_same_call(
 {
     if !is_call(script, call) {
         return Ok(false);
+    }
+    if is_equal_call(call, other) {
+        return Ok(true);
     }
     texts.first.clear();
     texts.second.clear();
@@ -47,6 +95,9 @@ fn is_same_reply(reply: &Reply, other: &Reply, texts: &mut Texts) -> Result<bool
 {
     if !is_reply(reply) {
         return Ok(false);
+    }
+    if is_equal_reply(reply, other) {
+        return Ok(true);
     }
     texts.first.clear();
     texts.second.clear();

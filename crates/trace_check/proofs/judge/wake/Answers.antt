@@ -1,4 +1,4 @@
-use Rattle.std.proofs.Common.{◌∙◌, sym, subst}
+use Rattle.std.proofs.Common.{sym, subst}
 use Rattle.std.proofs.lemmas.Result.{on_ok_weaker}
 use Rattle.trace_check.specs.Cursors.{AreSteady}
 use Rattle.trace_check.proofs.SteadyLaws.{steady-after-woken, steady-at, wake-lands}
