@@ -1,6 +1,6 @@
 use Rattle.std.proofs.Common.{◌≡◌, List, map, refl, ap, ◌∙◌}
 use Rattle.sandbox_set.specs.declared.read.Sandbox.{Sandbox}
-use Rattle.pico_cmd.proofs.Boxed.{text_of_boxes}
+use Rattle.pico_cmd.proofs.WorldTexts.{text_of_boxes}
 use Rattle.pico_cmd.proofs.Histories.{Laws}
 use Rattle.pico_cmd.proofs.boxed.run_boxes.Goals as goal
 
