@@ -50,7 +50,10 @@ fn no_sandbox<'a>(alloc: Global, line: Line<'a>) -> Finding<'a>
     if begins(line) {
         let (what, word) = match (words.get(1), words.get(2)) {
             (Some(name), None) => {
-                (Text::whole_in("`", name.text, "` is no name of a sandbox"), Some(name))
+                (
+                    Text::whole_in("`", name.text, "` is no name of a sandbox"),
+                    Some(name),
+                )
             }
             (_, word) => (
                 Text::plain("`sandbox` has one name behind it"),
@@ -70,8 +73,17 @@ fn no_end<'a>(alloc: Global, bytes: &'a [u8], line: Line<'a>) -> Finding<'a>
 {
     let what = Text::plain("a sandbox begins inside another");
     let expected = "a line `endsandbox` before this one";
-    let mut finding = at(alloc, line, what, expected, span_of(Words::of(line.text).get(0)));
-    finding.other = others(begun(bytes, line.number), "this sandbox has had no `endsandbox`");
+    let mut finding = at(
+        alloc,
+        line,
+        what,
+        expected,
+        span_of(Words::of(line.text).get(0)),
+    );
+    finding.other = others(
+        begun(bytes, line.number),
+        "this sandbox has had no `endsandbox`",
+    );
     finding
 }
 
@@ -81,8 +93,7 @@ fn no_end_at_all<'a>(alloc: Global, bytes: &'a [u8], number: usize) -> Finding<'
 {
     let (what, expected) = ("the input ends inside a sandbox", "a line `endsandbox`");
     let (what, expected) = (Text::plain(what), Text::plain(expected));
-    let mut finding =
-        Finding::without_line(alloc, what, expected, Some(number), Page::Sandboxes);
+    let mut finding = Finding::without_line(alloc, what, expected, Some(number), Page::Sandboxes);
     finding.other = others(begun(bytes, number), "begins it");
     finding
 }
@@ -103,7 +114,13 @@ fn no_block<'a>(alloc: Global, line: Line<'a>) -> Finding<'a>
 {
     let what = Text::plain("the sandbox has no block");
     let expected = "a block before this line: proc main, then a line for each call, then end";
-    at(alloc, line, what, expected, span_of(Words::of(line.text).get(0)))
+    at(
+        alloc,
+        line,
+        what,
+        expected,
+        span_of(Words::of(line.text).get(0)),
+    )
 }
 
 // A name that an earlier sandbox has.
@@ -113,7 +130,13 @@ fn twice<'a>(alloc: Global, bytes: &'a [u8], line: Line<'a>) -> Finding<'a>
     let words = Words::of(line.text);
     let name = text_at(words, 1);
     let what = Text::whole_in("an earlier sandbox has the name `", name, "`");
-    let mut finding = at(alloc, line, what, "a name of its own", span_of(words.get(1)));
+    let mut finding = at(
+        alloc,
+        line,
+        what,
+        "a name of its own",
+        span_of(words.get(1)),
+    );
     finding.other = others(named(bytes, name), "has it");
     finding
 }
@@ -132,12 +155,7 @@ fn too_many<'a>(
 }
 
 // A fault that isn't a script's, of a line that is there; none where the name is another's.
-fn of_line<'a>(
-    alloc: Global,
-    bytes: &'a [u8],
-    line: Line<'a>,
-    name: &[u8],
-) -> Option<Finding<'a>>
+fn of_line<'a>(alloc: Global, bytes: &'a [u8], line: Line<'a>, name: &[u8]) -> Option<Finding<'a>>
     ensures { IfSome result (λ finding. finding.number ≡ Some line.number) }
 {
     match name {

@@ -182,7 +182,10 @@ fn a_sandbox_comes_to_rest_while_another_is_held(rt: HostRuntime) -> Result<(), 
     let left = see_sandboxes(&rt, rt.alloc(), &gate)?;
     assert_eq!(rt; gate.words.read().2, 0);
     // the gate counts nodes over both
-    assert_eq!(rt; (gate.counts.of(Node(1)).1, gate.counts.of(Node(2)).1), (3, 2));
+    assert_eq!(rt;
+        (gate.counts.of(Node(1)).1, gate.counts.of(Node(2)).1),
+        (3, 2)
+    );
     assert_eq!(rt; left.map(|one| one.map(|it| it.0)), [Some(3), Some(2)]);
     Ok(())
 }
