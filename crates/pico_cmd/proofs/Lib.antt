@@ -1,5 +1,4 @@
 pub mod Histories
-pub mod Boxed
 pub mod Causes
 pub mod Chosen
 pub mod Ends
@@ -9,3 +8,4 @@ pub mod Runs
 pub mod Sandboxes
 pub mod ToldSoFar
 pub mod Verdicts
+pub mod WorldTexts

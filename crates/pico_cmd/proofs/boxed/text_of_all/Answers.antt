@@ -3,7 +3,7 @@ use Rattle.std.specs.Iterator.Adapters.{zip_first, zip_second}
 use Rattle.std.specs.Slice.Iter.{iter_rest}
 use Rattle.std.proofs.lemmas.Slice.Zip.{Zip-more, either_empty_from_Zip}
 use Rattle.pico_cmd.specs.Boxed.{worlds_text}
-use Rattle.pico_cmd.proofs.Boxed.{told_end, told_more, told_there}
+use Rattle.pico_cmd.proofs.WorldTexts.{told_end, told_more, told_there}
 use Rattle.pico_cmd.proofs.boxed.text_of_all.Goals as goal
 
 pub push_rested-requires : goal.push_rested-requires
