@@ -11,8 +11,11 @@ use Rattle.pico_cmd.proofs.boxed.run_boxes.Goals as goal
 
 pub text_of_all-requires : goal.text_of_all-requires
 text_of_all-requires g c =
-    subst (λ (rs : List Rested). AllByRecursion (λ (r : Rested). IsSome r.world) rs) (sym c.as_slice-2.ensures)
-    (worlds-are-there (scripts_of c.args.boxes) c.in_ok-rested.rested c.in_ok-rested.ensures)
+    record {
+      whole =
+          subst (λ (rs : List Rested). AllByRecursion (λ (r : Rested). IsSome r.world) rs) (sym c.as_slice-2.ensures)
+          (worlds-are-there (scripts_of c.args.boxes) c.in_ok-rested.rested c.in_ok-rested.ensures);
+    }
 
 pub returns : goal.returns
 returns g c =
@@ -27,8 +30,10 @@ returns g c =
     record {
       done = refl;
       run =
-          text_of_boxes laws c.args.boxes c.in_ok-rested.rested c.in_ok-names.names.items c.in_ok-text.text
+          text_of_boxes laws c.args.boxes c.in_ok-rested.rested c.deref.result.now c.in_ok-text.text
           c.requires.sound.scripts c.in_ok-rested.ensures
-          (c.in_ok-names.ensures ∙ ap (λ (bs : List Sandbox). map (λ (b : Sandbox). b.name) bs) c.as_slice.ensures)
-          (c.in_ok-text.ensures ∙ ap (λ (rs : List Rested). worlds_text c.in_ok-names.names.items rs) c.as_slice-2.ensures);
+          (c.deref.ensures.value
+          ∙ c.in_ok-names.ensures
+          ∙ ap (λ (bs : List Sandbox). map (λ (b : Sandbox). b.name) bs) c.as_slice.ensures)
+          (c.in_ok-text.ensures ∙ ap (λ (rs : List Rested). worlds_text c.deref.result.now rs) c.as_slice-2.ensures);
     }
