@@ -1,0 +1,18 @@
+//! A System V semaphore set at which callers wait: the operations of one call are carried out all at once, or their
+//! caller parks until they can be. Whoever can go on after a change is woken, the first who parked first.
+#![tactic(auto)]
+
+#[cfg(test)]
+mod tests;
+
+mod apply;
+mod fault;
+mod row;
+mod semaphore;
+mod set;
+mod settling;
+mod trial;
+mod waiters;
+
+pub use fault::NewFault;
+pub use set::SemSet;
