@@ -1,0 +1,10 @@
+pub mod Carried
+pub mod Kept
+pub mod Ops
+pub mod Removed
+pub mod Rounds
+pub mod Told
+pub mod Trials
+pub mod Walk
+pub mod Within
+pub mod Writes

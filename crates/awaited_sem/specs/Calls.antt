@@ -1,18 +1,18 @@
 -- Calls on a set, and what one comes to, as the program has it.
-use Rattle.std.specs.Prelude.{ℕ, Bool, true, false, Option, Some, None}
+use Rattle.std.specs.Prelude.{ℕ, Bool, true, false, Option, Some, None, slice_get}
 use Rattle.answer_laws.specs.Answers.{reply_to}
 use Rattle.pico_base.specs.declared.call.Call.{Call}
 use Rattle.pico_base.specs.declared.call.Call.TheVariants as calls
 use Rattle.pico_base.specs.declared.call.SemStep.{SemStep}
+use Rattle.pico_base.specs.declared.reply.Errno.{Errno}
 use Rattle.pico_base.specs.declared.reply.Reply.{Reply}
-use Rattle.pico_base.specs.declared.reply.Reply.TheVariants.{All}
+use Rattle.pico_base.specs.declared.reply.Reply.TheVariants.{All, Fail}
 use Rattle.kernel_model.specs.SemaphoreSet.{SemaphoreSet, values_of, value_at, last_at, read_semaphore}
 use Rattle.waiting_model.specs.declared.callers.Applied.{Applied}
 use Rattle.waiting_model.specs.Waiters.{Awaited, Carried}
 use Rattle.waiting_model.specs.SemaphoreSet.{is_negative_on, is_zero_on, count_waiters, count_reply}
 use Rattle.awaited_sem.specs.declared.waiters.Look.{Look}
 use Rattle.awaited_sem.specs.declared.waiters.Look.TheVariants.{Negative, Zero}
-use Rattle.std.specs.Prelude.{slice_get}
 
 -- the calls on a set that is there: all but its removal
 abbrev pub is_on_set : Call → Bool
@@ -53,6 +53,11 @@ look_reply set (calls.SemGetNcnt id num) = Some (counted_reply Negative num set)
 look_reply set (calls.SemGetZcnt id num) = Some (counted_reply Zero num set)
 look_reply set (calls.SemGetAll id) = Some (All (values_of set.state.semaphores))
 look_reply set call = None
+
+-- the error of a reply that is a refusal
+abbrev pub refusal_of : Option Reply → Option Errno
+refusal_of (Some (Fail e)) = Some e
+refusal_of reply = None
 
 -- what a call comes to: the object afterwards, the caller's own reply, none where it parks, and those who are woken
 abbrev pub carried_to : {T : Type 0} → Awaited T → Applied → Carried T

@@ -37,7 +37,7 @@ fn number_of(found: Result<Pid, Errno>) -> Result<u32, Errno>
 }
 
 /// The reply of a call that leaves the set as it is. None: it is another call.
-fn look(
+fn look_at(
     alloc: Global,
     row: &mut Row,
     waiters: &Links<Waiting>,
@@ -119,7 +119,7 @@ fn carry_out(
     ensures back { IfErr result (λ e. e.1 ≡ who) }
 {
     let alloc = row.allocator();
-    match look(alloc, row, waiters, &who.call) {
+    match look_at(alloc, row, waiters, &who.call) {
         Ok(Some(reply)) => Ok(Applied {
             own: Some(reply),
             wakes: Wakes::new(alloc),

@@ -1,11 +1,11 @@
 //! The semaphores of a set, with the values of a trial beside them.
-ghost use Rattle.std.specs.Prelude.{◌≡◌, ◌<◌, ◌≤◌, length, replicate, fold, MatchResult, Ok, Err, IfOk, false, nat_le, nat_lt, vec_len};
+ghost use Rattle.std.specs.Prelude.{◌≡◌, ◌<◌, length, replicate, fold, MatchResult, Ok, Err, Some, None, IfOk, false, nat_le, nat_lt, vec_len};
 ghost use Rattle.std.specs.List.{All, list_any};
 ghost use Rattle.answer_laws.specs.Answers.{done_reply};
 ghost use Rattle.kernel_model.specs.SemaphoreSet as definition;
 ghost use Rattle.kernel_model.specs.Waiting.{may_wait};
 ghost use Rattle.waiting_model.specs.SemaphoreSet.{stop_of, try_op, try_set};
-ghost use Rattle.awaited_sem.specs.Calls.{is_look};
+ghost use Rattle.awaited_sem.specs.Calls.{is_look, refusal_of};
 ghost use Rattle.awaited_sem.specs.Trial.{TriesTo};
 
 use crate::semaphore::Semaphore;
@@ -19,8 +19,7 @@ pub(crate) const MAX_SEMAPHORES: u32 = 64;
 
 const MAX_OPERATIONS: usize = 32;
 
-/// The semaphores of a set, 1 to 64 with values up to 32,767. The values of a trial stand in a row of their own, so that
-/// a `semop` takes no memory.
+/// The semaphores of a set. The values of a trial stand in a row of their own, so that a `semop` takes no memory.
 #[derive(Debug, Drop)]
 pub(crate) struct Row {
     pub(crate) semaphores: Vec<Semaphore>,
@@ -31,14 +30,12 @@ impl Model for Row {
     ghost use Rattle.std.specs.Prelude.{◌≡◌};
     ghost use Rattle.std.specs.Vec.{vec_len};
     ghost use Rattle.kernel_model.specs.SemaphoreSet.{SemaphoreSet};
-    ghost use Rattle.awaited_sem.specs.Limits.{IsWithinLimits};
 
     ghost Value = { SemaphoreSet };
 
     ghost view = { λ r. record { semaphores = r.semaphores.items } };
 
-    ghost invariant = { λ r. IsWithinLimits (record { semaphores = r.semaphores.items })
-        × (vec_len r.tried ≡ vec_len r.semaphores) };
+    ghost invariant = { λ r. vec_len r.tried ≡ vec_len r.semaphores };
 }
 
 /// Copies the semaphores' values.
@@ -48,7 +45,7 @@ pub(crate) fn copy_values(values: &mut Vec<u32>, semaphores: &[Semaphore])
     ensures as_many { vec_len values.new ≡ vec_len values.old }
 {
     for place in 0..semaphores.len() {
-        values[place] = semaphores[place].value;
+        values[place] = semaphores[place].value();
     }
 }
 
@@ -90,6 +87,16 @@ fn answer(outcome: Result<(), Errno>) -> Reply
     }
 }
 
+/// The outcome of a change, by its reply.
+fn outcome_of(reply: &Option<Reply>) -> Result<(), Errno>
+    ensures { MatchResult result (λ _. refusal_of reply.now ≡ None) (λ e. refusal_of reply.now ≡ Some e) }
+{
+    match reply {
+        Some(Reply::Fail(errno)) => Err(*errno),
+        _ => Ok(()),
+    }
+}
+
 /// Whether an operation names no semaphore of a set of this size.
 fn names_outside(size: usize, steps: &[SemStep]) -> bool
     ensures { result ≡ list_any (λ step. nat_le size step.num) steps.now }
@@ -105,10 +112,8 @@ fn is_above(values: &[u32]) -> bool
 }
 
 impl Row {
-    /// So many semaphores, as many as a set may have, each with the value 0 and no last process.
+    /// So many semaphores, each with the value 0 and no last process.
     pub(crate) fn new(alloc: Global, count: u32) -> Result<Row, AllocError>
-        requires some { 1 ≤ count }
-        requires few { count ≤ definition.max_semaphores }
         ensures { IfOk result (λ row. row ≡ definition.set_of (replicate count definition.new_semaphore)) }
     {
         let new = Semaphore {
@@ -121,10 +126,10 @@ impl Row {
     }
 
     /// How many semaphores there are.
-    pub(crate) fn size(&self) -> u32
+    pub(crate) fn size(&self) -> usize
         ensures { result ≡ length self.now.semaphores }
     {
-        self.semaphores.len() as u32
+        self.semaphores.len()
     }
 
     /// What the semaphores take their memory from.
@@ -189,7 +194,7 @@ impl Row {
     pub(crate) fn all(&self, alloc: Global) -> Result<Values, Memory>
         ensures { IfOk result (λ values. values ≡ definition.values_of self.now.semaphores) }
     {
-        Ok(Values::from_vec(self.semaphores.iter().map(|s| s.value).collect(alloc)?))
+        Ok(Values::from_vec(self.semaphores.iter().map(|s| s.value()).collect(alloc)?))
     }
 
     /// The operation at which the trial of a `semop` stops, where it does.
@@ -235,10 +240,8 @@ impl Row {
         ensures { MatchResult result (λ _. definition.op self.old pid steps.now ≡ Ok self.new)
             (λ e. (definition.op self.old pid steps.now ≡ Err e) × (self.new ≡ self.old)) }
     {
-        match self.try_op(pid, steps) {
-            Some(Reply::Fail(errno)) => Err(errno),
-            _ => Ok(()),
-        }
+        let reply = self.try_op(pid, steps);
+        outcome_of(&reply)
     }
 
     /// Tries a call that changes the set, or is refused. None: it has to wait. It takes no memory.

@@ -121,7 +121,7 @@ impl SemSet {
     pub fn size(&self) -> u32
         ensures { result ≡ length self.now.state.semaphores }
     {
-        self.row.size()
+        self.row.size() as u32
     }
 
     /// `semctl` with IPC_RMID: what each who waits is told, EIDRM, in order. Then nobody waits. Memory: an allocation

@@ -2,6 +2,7 @@
 ghost use Rattle.std.specs.Prelude.{◌≡◌, ◌≤◌, [], length, vec_capacity};
 ghost use Rattle.waiting_model.specs.Waiters.{settle};
 ghost use Rattle.awaited_sem.specs.Settling.{settled, FindsReady, WakesFirst};
+ghost use Rattle.awaited_sem.specs.Trial.{TriesTo};
 ghost use Rattle.awaited_sem.specs.Waiters.{held, try_steps};
 
 use crate::row::Row;
@@ -9,6 +10,13 @@ use crate::waiters::{steps_of, woken};
 use index_links::{Links, Slot};
 use pico_base::Reply;
 use waiting_model::{Waiting, Wake};
+
+/// Tries the call of one who waits. None: it goes on waiting, and all stays.
+fn try_waiter(row: &mut Row, waiter: &Waiting) -> Option<Reply>
+    ensures { TriesTo (try_steps row.old waiter.now.pid waiter.now.call) row.old row.new result }
+{
+    row.try_op(waiter.pid, steps_of(&waiter.call))
+}
 
 /// The slot of the first who can go on, whose operations are carried out, and the reply. None: nobody can.
 fn first_ready(row: &mut Row, waiters: &Links<Waiting>) -> Option<(Slot, Reply)>
@@ -20,8 +28,7 @@ fn first_ready(row: &mut Row, waiters: &Links<Waiting>) -> Option<(Slot, Reply)>
         let Some(slot) = at else {
             return None;
         };
-        let waiter = waiters.value(slot);
-        if let Some(reply) = row.try_op(waiter.pid, steps_of(&waiter.call)) {
+        if let Some(reply) = try_waiter(row, waiters.value(slot)) {
             return Some((slot, reply));
         }
         at = waiters.next(slot);
@@ -48,7 +55,8 @@ pub(crate) fn settle(
     ensures { settle try_steps (held row.old waiters.old.nodes)
         ≡ settled (held row.new waiters.new.nodes) result.items }
 {
-    for _ in 0..waiters.len() {
+    let all = waiters.len();
+    for round in 0..all {
         match wake_first(row, waiters) {
             Some(wake) => wakes.push_reserved(wake),
             None => return wakes,

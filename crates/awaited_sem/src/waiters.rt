@@ -42,6 +42,13 @@ pub(crate) fn woken(waiter: Waiting, reply: Reply) -> Wake
     }
 }
 
+/// Whether it is this process that waits.
+fn is_of(waiter: &Waiting, pid: Pid) -> bool
+    ensures { result ≡ nat_eq pid waiter.now.pid }
+{
+    pid == waiter.pid
+}
+
 /// Whether a process waits.
 pub(crate) fn waits(waiters: &Links<Waiting>, pid: Pid) -> bool
     ensures { result ≡ list_any (λ w. nat_eq pid w.pid) (waiters_in waiters.now.nodes) }
@@ -52,7 +59,7 @@ pub(crate) fn waits(waiters: &Links<Waiting>, pid: Pid) -> bool
         let Some(slot) = at else {
             return false;
         };
-        if pid == waiters.value(slot).pid {
+        if is_of(waiters.value(slot), pid) {
             return true;
         }
         at = waiters.next(slot);
@@ -148,7 +155,7 @@ pub(crate) fn count(row: &mut Row, waiters: &Links<Waiting>, look: Look, num: u1
     ensures same { row.new ≡ row.old }
     ensures reply { result ≡ counted_reply look num (held row.old waiters.now.nodes) }
 {
-    if u32::from(num) >= row.size() {
+    if usize::from(num) >= row.size() {
         return Reply::Fail(Errno::Einval);
     }
     Reply::Num(count_waiters(row, waiters, look, num))
