@@ -135,7 +135,7 @@ other_by set who (calls.SemGetNcnt id num) e = absurd (cc)
 other_by set who (calls.SemGetZcnt id num) e = absurd (cc)
 other_by set who call e = refl
 
-pub other : (set : Awaited SemaphoreSet) (who : Waiting) (o : Option Reply) → o ≡ look_reply set who.call → o ≡ None
+other : (set : Awaited SemaphoreSet) (who : Waiting) (o : Option Reply) → o ≡ look_reply set who.call → o ≡ None
     → carry_out_on_set set who ≡ carry_out try_set set who
 other set who o is none = other_by set who who.call (sym is ∙ none)
 
@@ -150,6 +150,16 @@ no_look_by set call e = refl
 pub no_look : (set : Awaited SemaphoreSet) (call : Call) (o : Option Reply) → o ≡ look_reply set call → o ≡ None
     → is_look call ≡ false
 no_look set call o is none = no_look_by set call (sym is ∙ none)
+
+-- as whatever comes of the call tells it
+pub other_carried : {E : Type 0} (r : Result Applied E) (old mid new : SemaphoreSet) (nodes left : List (Node Waiting))
+    (who : Waiting) (o : Option Reply) → o ≡ look_reply (held old nodes) who.call → o ≡ None → mid ≡ old
+    → IfOk r (λ applied. carry_out try_set (held mid nodes) who ≡ carried_to (held new left) applied)
+    → IfOk r (λ applied. carry_out_on_set (held old nodes) who ≡ carried_to (held new left) applied)
+other_carried (Ok applied) old mid new nodes left who o is none same told =
+    other (held old nodes) who o is none
+    ∙ (ap (λ (x : SemaphoreSet). carry_out try_set (held x nodes) who) (sym same) ∙ told)
+other_carried (Err e) old mid new nodes left who o is none same told = tt
 
 -- ---- a set is at rest after a call
 

@@ -1,6 +1,9 @@
+pub mod Bodies
+pub mod Calls
 pub mod Carried
 pub mod Kept
 pub mod Ops
+pub mod Packing
 pub mod Removed
 pub mod Rounds
 pub mod Told

@@ -7,11 +7,13 @@ mod tests;
 
 mod apply;
 mod fault;
+mod pack;
 mod row;
 mod semaphore;
 mod set;
 mod settling;
 mod trial;
+mod unpack;
 mod waiters;
 
 pub use fault::NewFault;

@@ -17,7 +17,7 @@ use std::marker::Model;
 // The profile's limits: a set's semaphores, and the operations of a `semop`.
 pub(crate) const MAX_SEMAPHORES: u32 = 64;
 
-const MAX_OPERATIONS: usize = 32;
+pub(crate) const MAX_OPERATIONS: usize = 32;
 
 /// The semaphores of a set. The values of a trial stand in a row of their own, so that a `semop` takes no memory.
 #[derive(Debug, Drop)]

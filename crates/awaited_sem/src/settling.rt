@@ -12,7 +12,7 @@ use pico_base::Reply;
 use waiting_model::{Waiting, Wake};
 
 /// Tries the call of one who waits. None: it goes on waiting, and all stays.
-fn try_waiter(row: &mut Row, waiter: &Waiting) -> Option<Reply>
+pub(crate) fn try_waiter(row: &mut Row, waiter: &Waiting) -> Option<Reply>
     ensures { TriesTo (try_steps row.old waiter.now.pid waiter.now.call) row.old row.new result }
 {
     row.try_op(waiter.pid, steps_of(&waiter.call))

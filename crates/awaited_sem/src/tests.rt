@@ -85,3 +85,28 @@ fn cancelling(rt: HostRuntime) -> Result<(), Fail> {
     assert_eq!(rt; a.wakes.len(), 0);
     Ok(())
 }
+
+/// Code 5, one semaphore of value 0 and last process 0, one who waits: node 2, ticket 11, process 1, semop 9 on set 1
+/// with one operation: semaphore 0, -2, no nowait.
+const BODY: &[u8] = b"\x05\x01\x00\x00\x00\x00\x00\x00\x01\x02\x00\x00\x00\x0b\x00\x00\x00\x01\x09\x00\x00\x00\x01\x00\x01\x00\x00\xff\xff\xff\xfe\x00";
+
+#[test]
+fn bodies(rt: HostRuntime) -> Result<(), Fail> {
+    let mut set = SemSet::new(rt.alloc(), 1)?;
+    let _ = apply(&mut set, 1, semop(rt.alloc(), &[step(0, -2)])?)?;
+    assert_eq!(rt; set.pack()?.as_slice(), BODY);
+    let again = SemSet::unpack(rt.alloc(), BODY)?;
+    assert_eq!(rt; again.waiting(), 1);
+    assert_eq!(rt; again.pack()?.as_slice(), BODY);
+    for length in 0..BODY.len() {
+        assert_eq!(rt; SemSet::is_packed(rt.alloc(), &BODY[..length])?, false, "{length}");
+    }
+    // a waiter who could go on
+    let mut ready = Vec::new(rt.alloc());
+    ready.extend_from_slice(BODY)?;
+    ready[3] = 2;
+    assert_eq!(rt; SemSet::is_packed(rt.alloc(), ready.as_slice())?, false);
+    ready[3] = 1;
+    assert_eq!(rt; SemSet::is_packed(rt.alloc(), ready.as_slice())?, true);
+    Ok(())
+}

@@ -13,6 +13,9 @@ use index_links::{Links, Slot};
 use pico_base::{Call, Errno, Pid, Reply, SemStep};
 use waiting_model::{Waiting, Wake};
 
+/// So many wait at a set at most.
+pub(crate) const MAX_WAITERS: u32 = 32;
+
 /// Which of those who wait are counted: for a higher value, or for 0.
 #[derive(Clone, Copy)]
 pub(crate) enum Look {
@@ -43,7 +46,7 @@ pub(crate) fn woken(waiter: Waiting, reply: Reply) -> Wake
 }
 
 /// Whether it is this process that waits.
-fn is_of(waiter: &Waiting, pid: Pid) -> bool
+pub(crate) fn is_of(waiter: &Waiting, pid: Pid) -> bool
     ensures { result ≡ nat_eq pid waiter.now.pid }
 {
     pid == waiter.pid

@@ -1,10 +1,5 @@
-use Rattle.std.proofs.Common.{◌≡◌, sym, subst}
-use Rattle.std.specs.Prelude.{IfOk}
-use Rattle.kernel_model.specs.SemaphoreSet.{SemaphoreSet}
-use Rattle.waiting_model.specs.Waiters.{Carried}
-use Rattle.awaited_sem.specs.Calls.{carried_to}
 use Rattle.awaited_sem.specs.Waiters.{held}
-use Rattle.awaited_sem.proofs.Carried.{looks, other}
+use Rattle.awaited_sem.proofs.Carried.{looks, other_carried}
 use Rattle.awaited_sem.proofs.apply.carry_out.Goals as goal
 
 pub returns-in-Ok-Some-clause-carried : goal.returns-in-Ok-Some-clause-carried
@@ -15,9 +10,6 @@ returns-in-Ok-Some-clause-carried c =
 
 pub returns-in-Ok-None-clause-carried : goal.returns-in-Ok-None-clause-carried
 returns-in-Ok-None-clause-carried c =
-    let same = other (held c.args.row.now c.args.waiters.now.nodes) c.args.who c.in-Ok-None.field-0
-    c.in-Ok-None.ensures.reply c.in-Ok-None.field-0-is in
-    subst
-    (λ (x : Carried SemaphoreSet).
-    IfOk c.change.result (λ applied. x ≡ carried_to (held c.change.new.row c.change.new.waiters.nodes) applied))
-    (sym same) (rw c.look_at.ensures.same at c.change.ensures.carried)
+    other_carried c.change.result c.args.row.now c.look_at.new.row c.change.new.row c.args.waiters.now.nodes
+    c.change.new.waiters.nodes c.args.who c.in-Ok-None.field-0 c.in-Ok-None.ensures.reply c.in-Ok-None.field-0-is
+    c.look_at.ensures.same c.change.ensures.carried
