@@ -33,7 +33,7 @@ use Rattle.awaited_sem.proofs.Calls.{asked_of_settled}
 abbrev IsField : Semaphore → Type 0
 IsField s = (s.value ≤ max_value) × HasProcess s
 
-value-field : Field ℕ
+abbrev value-field : Field ℕ
 value-field =
     record {
       Fits = λ n. n ≤ max_value;

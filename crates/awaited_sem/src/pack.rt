@@ -3,11 +3,12 @@ ghost use Rattle.std.specs.Prelude.{◌≡◌, ◌+◌, ◌*◌, ◌≤◌, ◌+
 ghost use Rattle.std.specs.Int.{w16, w32, to_be_bytes};
 ghost use Rattle.std.specs.List.{flat_map, AllByRecursion};
 ghost use Rattle.frame_bytes.specs.Limits.{is_call};
-ghost use Rattle.kernel_model.specs.SemaphoreSet.{max_value};
-ghost use Rattle.awaited_sem.specs.Body.{semaphore_field, waiter_field, HasProcess, HasWaiterRanges, IsBodyOf};
+ghost use Rattle.kernel_model.specs.SemaphoreSet.{max_semaphores, max_value};
+ghost use Rattle.awaited_sem.specs.Body.{row_field, semaphore_field, waiter_field, HasProcess, HasWaiterRanges, IsBodyOf};
 ghost use Rattle.awaited_sem.specs.Waiters.{waiters_in};
 
 use crate::SemSet;
+use crate::row::Row;
 use crate::semaphore::Semaphore;
 use frame_bytes::put_asked;
 use index_links::Links;
@@ -104,6 +105,20 @@ fn push_waiters(alloc: Global, out: &mut Vec<u8>, waiters: &Links<Waiting>) -> R
     Ok(())
 }
 
+impl Row {
+    /// Adds the count of the semaphores and each of them at the end, for which there is room.
+    fn push_onto(&self, out: &mut Vec<u8>)
+        requires fit { AllByRecursion (λ s. s.value ≤ max_value) self.now.semaphores }
+        requires few { length self.now.semaphores ≤ max_semaphores }
+        requires room { vec_len out.old + 1 + 6 * length self.now.semaphores ≤ vec_capacity out.old }
+        ensures field { out.new.items ≡ out.old.items ++ row_field self.now.semaphores }
+        ensures processes { AllByRecursion HasProcess self.now.semaphores }
+    {
+        out.push_reserved(self.semaphores.len() as u8);
+        push_semaphores(out, &self.semaphores);
+    }
+}
+
 impl SemSet {
     /// The set as bytes, which `unpack` makes into an equal set. A set has one spelling: 5, the count of semaphores
     /// in one byte, each semaphore as its value in 2 bytes and its last process in 4, the count of those who wait in
@@ -112,11 +127,9 @@ impl SemSet {
         ensures { IfOk result (λ bytes. IsBodyOf self.now bytes) }
     {
         let alloc = self.row.allocator();
-        let semaphores = self.row.semaphores.as_slice();
-        let mut out = Vec::with_capacity(alloc, 3 + 6 * semaphores.len())?;
+        let mut out = Vec::with_capacity(alloc, 3 + 6 * self.row.size())?;
         out.push_reserved(CODE);
-        out.push_reserved(semaphores.len() as u8);
-        push_semaphores(&mut out, semaphores);
+        self.row.push_onto(&mut out);
         out.push(self.waiters.len() as u8)?;
         push_waiters(alloc, &mut out, &self.waiters)?;
         Ok(Bytes::from_vec(out))

@@ -1,6 +1,7 @@
 //! A set read from bytes.
-ghost use Rattle.std.specs.Prelude.{◌≡◌, [], Err, IfOk, IfErr, List, ℕ, list_any, list_all, nat_eq, length};
+ghost use Rattle.std.specs.Prelude.{◌≡◌, Err, IfOk, nat_eq};
 ghost use Rattle.std.specs.Bool.{OnTrue};
+ghost use Rattle.std.specs.List.{list_all, list_any};
 ghost use Rattle.pico_base.specs.declared.fault.UnpackFault.TheVariants.{NotABody};
 ghost use Rattle.body_fields.specs.Fields.{whole, Reads, TellsPacked};
 ghost use Rattle.frame_bytes.specs.Readers.{many, Gives};
