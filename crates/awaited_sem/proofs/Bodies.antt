@@ -23,7 +23,8 @@ use Rattle.waiting_model.specs.declared.callers.Waiting.{Waiting}
 use Rattle.waiting_model.specs.Waiters.{Awaited, awaited, IsSettled}
 use Rattle.waiting_model.specs.SemaphoreSet.{try_set}
 use Rattle.awaited_sem.specs.Limits.{IsWithinLimits}
-use Rattle.awaited_sem.specs.Waiters.{max_waiters, try_steps, IsShortOp, IsSetWaiter, LackProcess, HaveOwnProcesses, MayWait, IsAtRest}
+use Rattle.index_links.specs.Nodes.{Node}
+use Rattle.awaited_sem.specs.Waiters.{held, max_waiters, waiters_in, try_steps, IsShortOp, IsSetWaiter, LackProcess, HaveOwnProcesses, MayWait, IsAtRest}
 use Rattle.awaited_sem.specs.Body.{set_code, semaphore_field, row_field, asked_of, waiter_field, waiters_field, body, HasProcess, HasWaiterRanges, IsBodyOf}
 use Rattle.awaited_sem.specs.Reading.{semaphore_at, is_good_count, row_at, waiting_of, is_short_op, waiter_at, have_own, waiters_at, waits, is_settled, fields_at, set_at}
 use Rattle.awaited_sem.proofs.Calls.{asked_of_settled}
@@ -343,3 +344,26 @@ no_set bytes none set h = refused (set_at bytes) set none (set_again bytes set h
 -- bytes are the body of one set
 pub one_set : (bytes : List ℕ) (a b : Awaited SemaphoreSet) → IsBodyOf a bytes → IsBodyOf b bytes → a ≡ b
 one_set bytes a b h g = some_is a b (sym (set_again bytes a h) ∙ set_again bytes b g)
+
+-- ---- what unpacking tells
+
+-- the fields behind the code, those who wait linked in their order
+pub body_found : (bytes fields : List ℕ) (row : SemaphoreSet) (ws : List Waiting) (nodes : List (Node Waiting))
+    → IsBytes bytes → bytes ≡ set_code ∷ fields → whole (fields_at fields) ≡ Some (awaited row ws)
+    → waiters_in nodes ≡ ws → IsBodyOf (held row nodes) bytes
+unfolding set_at
+body_found bytes fields row ws nodes fits is read linked =
+    let there : set_at bytes ≡ Some (awaited row ws) = ap set_at is ∙ read in
+    subst (λ (vs : List Waiting). IsBodyOf (awaited row vs) bytes) (sym linked)
+    (set_takes bytes (awaited row ws) fits there)
+
+-- no fields behind the code
+pub body_lacks : (bytes fields : List ℕ) → bytes ≡ set_code ∷ fields → whole (fields_at fields) ≡ None
+    → (set : Awaited SemaphoreSet) → IsBodyOf set bytes → ⊥
+unfolding set_at
+body_lacks bytes fields is none = no_set bytes (ap set_at is ∙ none)
+
+-- no code
+pub code_lacks : (bytes : List ℕ) → ((fields : List ℕ) → bytes ≡ set_code ∷ fields → ⊥) → (set : Awaited SemaphoreSet)
+    → IsBodyOf set bytes → ⊥
+code_lacks bytes other set h = other (row_field set.state.semaphores ++ waiters_field set.waiters) h.spelled

@@ -20,6 +20,7 @@ some_count : (set : SemaphoreSet) (pid : ℕ) (steps : List SemStep) → length 
 some_count set pid [] few e = absurd (cc)
 some_count set pid (s ∷ ss) few e = grind (arith, nat_tests)
 
+-- a call that has to wait has a spelling
 pub asked_of_settled : (set : SemaphoreSet) (pid : ℕ) (call : Call) → IsShortOp call → try_set set pid call ≡ None
     → is_call call ≡ true
 asked_of_settled set pid (calls.SemOp id steps) h e = some_count set pid steps h e

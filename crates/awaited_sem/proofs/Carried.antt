@@ -65,6 +65,7 @@ same_settle object h = same_rounds (length object.waiters) object h
 
 -- ---- a call that has its reply, and one that parks
 
+-- a call that has its reply, and whom it wakes
 pub replies : (old mid new : SemaphoreSet) (nodes left : List (Node Waiting)) (who : Waiting) (reply : Reply)
     (wakes : List Wake) → try_set old who.pid who.call ≡ Some (attempt mid reply)
     → AllByRecursion IsSetWaiter (waiters_in nodes) → settle try_steps (held mid nodes) ≡ settled (held new left) wakes
@@ -122,6 +123,7 @@ looks_by set who reply (calls.SemGetAll id) is settled e =
     ∙ ap (λ (r : Reply). Some (attempt set.state r)) (some_reply (All (values_of set.state.semaphores)) reply e))
 looks_by set who reply call is settled e = absurd (cc)
 
+-- a look leaves all as it is
 pub looks : (set : Awaited SemaphoreSet) (who : Waiting) (o : Option Reply) (reply : Reply) → IsSettled try_set set
     → o ≡ look_reply set who.call → o ≡ Some reply
     → carry_out_on_set set who ≡ carried_to set (record { own = Some reply; wakes = [] })

@@ -154,6 +154,7 @@ module _ {T : Type 0} where
 
 -- ---- one more who waits
 
+-- what holds of all holds with one more of whom it holds
 pub all_behind : (P : Waiting → Type 0) (ws : List Waiting) (w : Waiting) → AllByRecursion P ws → P w
     → AllByRecursion P (ws ++ w ∷ [])
 all_behind P [] w h g = (g, tt)
@@ -172,6 +173,7 @@ apart_behind (v ∷ ws) w h none =
       apart_behind ws w h.1 both.1,
     )
 
+-- one more may wait, where there is room and its process does not wait
 pub may_behind : (ws : List Waiting) (w : Waiting) → MayWait ws → length ws < max_waiters → IsSetWaiter w
     → list_any (λ v. nat_eq w.pid v.pid) ws ≡ false → MayWait (ws ++ w ∷ [])
 may_behind ws w h few is none =
@@ -188,6 +190,7 @@ all_kept : (P : Waiting → Type 0) (w : Waiting) (b : Bool) (ws : List Waiting)
 all_kept P w true ws h g = (h, g)
 all_kept P w false ws h g = g
 
+-- what holds of all holds of those who are left
 pub all_filtered : (P : Waiting → Type 0) (test : Waiting → Bool) (ws : List Waiting) → AllByRecursion P ws
     → AllByRecursion P (filter test ws)
 all_filtered P test [] h = tt
@@ -212,6 +215,7 @@ few_filtered : (test : Waiting → Bool) (ws : List Waiting) → length (filter 
 few_filtered test [] = omega arith
 few_filtered test (w ∷ ws) = few_kept w (test w) (filter test ws) (length ws) (few_filtered test ws)
 
+-- those who are left may wait
 pub may_filtered : (test : Waiting → Bool) (ws : List Waiting) → MayWait ws → MayWait (filter test ws)
 may_filtered test ws h =
     let few = h.few in

@@ -17,6 +17,7 @@ ArePacked before out ws = (out ≡ before ++ flat_map waiter_field ws) × AllByR
 pub packs_none : (out : List ℕ) → ArePacked out out []
 packs_none out = (sym (append-nil out), tt)
 
+-- one more was packed
 pub packs_further : (before out more : List ℕ) (w : Waiting) → more ≡ out ++ waiter_field w → HasWaiterRanges w
     → (ws : List Waiting) → ArePacked before out ws → ArePacked before more (ws ++ w ∷ [])
 packs_further before out more w is range ws h =

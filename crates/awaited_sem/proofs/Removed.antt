@@ -42,10 +42,12 @@ any_there test nodes P at count slot w own is value holds r =
 
 -- ---- looking for a process and a ticket
 
+-- none was found so far, nor is it this one
 pub not_found_further : (test : Waiting → Bool) (w : Waiting) → test w ≡ false → (ws : List Waiting)
     → find test ws ≡ None → find test (ws ++ w ∷ []) ≡ None
 not_found_further test w fails ws none = rw (find-append test ws (w ∷ []), none, fails) refl
 
+-- this one is the first that was asked for
 pub asked_there : (pid ticket : ℕ) (nodes : List (Node Waiting)) (at : Option ℕ) (count slot : ℕ) (w : Waiting)
     → HaveOwnSlots nodes → at ≡ Some slot
     → option_map (λ (n : Node Waiting). n.value) (node_at slot nodes) ≡ Some w → is_asked pid ticket w ≡ true
@@ -232,6 +234,7 @@ refused_ends tell all now told count first is none r =
 
 -- ---- counting
 
+-- one more is counted, or not
 pub counts_further : (test : Waiting → Bool) (w : Waiting) (n m : ℕ) → m ≡ cond (test w) 1 0 → (ws : List Waiting)
     → n ≡ count_by test ws → n + m ≡ count_by test (ws ++ w ∷ [])
 counts_further test w n m one ws counted =

@@ -91,12 +91,14 @@ kept_by : {U : Type 0} (r : Result U Errno) (answer : Result SemaphoreSet Errno)
 kept_by (Ok u) answer old new fine told h = fine new told
 kept_by (Err e) answer old new fine told h = subst IsWithinLimits (sym told.1) h
 
+-- a `semop` leaves a set within the limits
 pub limits_after_op : {U : Type 0} (r : Result U Errno) (old new : SemaphoreSet) (pid : ℕ) (steps : List SemStep)
     → MatchResult r (λ _. op old pid steps ≡ Ok new) (λ e. (op old pid steps ≡ Err e) × (new ≡ old))
     → IsWithinLimits old → IsWithinLimits new
 limits_after_op r old new pid steps told h =
     kept_by r (op old pid steps) old new (λ n is. op_within old.semaphores n pid steps is h) told h
 
+-- so does a SETALL
 pub limits_after_set_all : {U : Type 0} (r : Result U Errno) (old new : SemaphoreSet) (values : List ℕ)
     → MatchResult r (λ _. set_all old values ≡ Ok new) (λ e. (set_all old values ≡ Err e) × (new ≡ old))
     → IsWithinLimits old → IsWithinLimits new

@@ -170,6 +170,7 @@ waiters_parts nodes done slot w s is =
     ∙ (map-append (λ (m : Node Waiting). m.value) done (s.node ∷ s.rest)
     ∙ ap (λ (v : Waiting). waiters_in done ++ v ∷ waiters_in s.rest) is)
 
+-- those who are left without the one in a slot
 pub waiters_left : (nodes done : Nodes) (slot : ℕ) → (s : StandsAt nodes done slot)
     → waiters_in (without slot nodes) ≡ waiters_in done ++ waiters_in s.rest
 waiters_left nodes done slot s =

@@ -88,7 +88,9 @@ fn cancelling(rt: HostRuntime) -> Result<(), Fail> {
 
 /// Code 5, one semaphore of value 0 and last process 0, one who waits: node 2, ticket 11, process 1, semop 9 on set 1
 /// with one operation: semaphore 0, -2, no nowait.
-const BODY: &[u8] = b"\x05\x01\x00\x00\x00\x00\x00\x00\x01\x02\x00\x00\x00\x0b\x00\x00\x00\x01\x09\x00\x00\x00\x01\x00\x01\x00\x00\xff\xff\xff\xfe\x00";
+const BODY: &[u8] = &[
+    5, 1, 0, 0, 0, 0, 0, 0, 1, 2, 0, 0, 0, 11, 0, 0, 0, 1, 9, 0, 0, 0, 1, 0, 1, 0, 0, 255, 255, 255, 254, 0,
+];
 
 #[test]
 fn bodies(rt: HostRuntime) -> Result<(), Fail> {

@@ -1,9 +1,11 @@
 pub mod Histories
+pub mod Boxed
 pub mod Causes
 pub mod Chosen
 pub mod Ends
 pub mod Goings
 pub mod Promises
 pub mod Runs
+pub mod Sandboxes
 pub mod ToldSoFar
 pub mod Verdicts

@@ -9,5 +9,6 @@ pub mod Kernels
 pub mod PlaceLaws
 pub mod SameTexts
 pub mod StandingLaws
-pub mod TallyLaws
+pub mod SteadyLaws
+pub mod Waits
 pub mod Examples

@@ -35,7 +35,7 @@ fn judge(alloc: Global, script: &Script, bytes: &[u8], first_line: u32) -> Resul
             return Err(CheckFault::NotATrace { line });
         }
         if judge.is_totals(text, &mut scratch)? {
-            return judge.totals(script, line, after);
+            return judge.totals(script, line, line - first_line, after);
         }
         let Some(entry) = entry_in(alloc, script, text, &mut scratch)? else {
             return Err(CheckFault::NotATrace { line });
@@ -58,9 +58,11 @@ fn judge(alloc: Global, script: &Script, bytes: &[u8], first_line: u32) -> Resul
 /// 1. `NotATrace`: the line is none of a trace, or has other totals; or a line follows the totals; or a limit is
 ///    passed; or the bytes end before the totals, at the line behind the last one.
 /// 2. `NotTheScript`: the process was not forked, or has ended, or another call is due; or, at the totals, a process
-///    has not ended, of which that of the smallest number is named. A process that was doomed, and has had the entry
-///    that it may still have, has its end due. In place of the script's call the end by any signal may stand.
-/// 3. `Illegal`: the kernel has no transition there, or another reply.
+///    has neither ended nor waits, of which that of the smallest number is named. A process that waits has its
+///    withdrawal due, from where it waits. One that was doomed, and has had the entry that it may still have, has its
+///    end due. In place of the script's call the end by any signal may stand.
+/// 3. `Illegal`: the kernel has no transition there, or another outcome: another reply, or other callers that are woken,
+///    or with other replies, or in another order.
 ///
 /// `Memory` comes where an allocation was refused.
 pub fn check_trace(

@@ -1,8 +1,8 @@
-//! Whether two calls, or two replies, are the same: their texts are.
-ghost use Rattle.std.specs.Prelude.{◌≡◌, ◌≤◌, IfOk, length};
+//! Whether two calls, or two outcomes, are the same: their texts are.
+ghost use Rattle.std.specs.Prelude.{◌≡◌, ◌&&◌, nat_eq, IfOk};
 ghost use Rattle.trace_check.specs.FirstFault as spec;
 
-use pico_base::{Call, Memory, Reply, Script};
+use pico_base::{Call, Memory, Outcome, Pid, Reply, Script};
 use std::alloc::Global;
 use trace_text::{is_call, is_reply, push_call, push_reply};
 
@@ -42,16 +42,9 @@ pub(crate) fn is_same_call(
 }
 
 /// Whether the kernel's reply is in the grammar of a trace, and has the text of the other.
-pub(crate) fn is_same_reply(
-    reply: &Option<Reply>,
-    other: &Reply,
-    texts: &mut Texts,
-) -> Result<bool, Memory>
+fn is_same_reply(reply: &Reply, other: &Reply, texts: &mut Texts) -> Result<bool, Memory>
     ensures { IfOk result (λ is. is ≡ spec.is_same_reply reply.now other.now) }
 {
-    let Some(reply) = reply else {
-        return Ok(false);
-    };
     if !is_reply(reply) {
         return Ok(false);
     }
@@ -60,4 +53,73 @@ pub(crate) fn is_same_reply(
     push_reply(&mut texts.first, reply)?;
     push_reply(&mut texts.second, other)?;
     Ok(texts.first.as_slice() == texts.second.as_slice())
+}
+
+/// Whether the caller's own replies are the same, or both calls park.
+fn is_same_own(
+    own: &Option<Reply>,
+    other: &Option<Reply>,
+    texts: &mut Texts,
+) -> Result<bool, Memory>
+    ensures { IfOk result (λ is. is ≡ spec.is_same_own own.now other.now) }
+{
+    let Some(reply) = own else {
+        return Ok(other.is_none());
+    };
+    match other {
+        Some(other) => is_same_reply(reply, other, texts),
+        None => Ok(false),
+    }
+}
+
+/// Whether the same process is woken with the same reply.
+fn is_same_wake(
+    wake: &(Pid, Reply),
+    other: &(Pid, Reply),
+    texts: &mut Texts,
+) -> Result<bool, Memory>
+    ensures { IfOk result
+        (λ is. is ≡ (nat_eq wake.now.0 other.now.0 && spec.is_same_reply wake.now.1 other.now.1)) }
+{
+    if wake.0.0 != other.0.0 {
+        return Ok(false);
+    }
+    is_same_reply(&wake.1, &other.1, texts)
+}
+
+/// Whether the same callers are woken, in the same order, and with the same replies.
+fn are_same_wakes(
+    woken: &[(Pid, Reply)],
+    others: &[(Pid, Reply)],
+    texts: &mut Texts,
+) -> Result<bool, Memory>
+    ensures { IfOk result (λ are. are ≡ spec.are_same_wakes woken.now others.now) }
+{
+    let mut rest = woken;
+    let mut against = others;
+    while let Some((wake, behind)) = rest.split_first() {
+        let Some((other, left)) = against.split_first() else {
+            return Ok(false);
+        };
+        if !is_same_wake(wake, other, texts)? {
+            return Ok(false);
+        }
+        rest = behind;
+        against = left;
+    }
+    Ok(against.is_empty())
+}
+
+/// Whether the kernel's outcome is in the grammar of a trace, and is the other.
+pub(crate) fn is_same_outcome(
+    outcome: &Outcome,
+    other: &Outcome,
+    texts: &mut Texts,
+) -> Result<bool, Memory>
+    ensures { IfOk result (λ is. is ≡ spec.is_same_outcome outcome.now other.now) }
+{
+    if !is_same_own(&outcome.own, &other.own, texts)? {
+        return Ok(false);
+    }
+    are_same_wakes(outcome.woken.as_slice(), other.woken.as_slice(), texts)
 }
