@@ -13,7 +13,9 @@ use Rattle.frame_bytes.specs.Fields.{IsWord}
 use Rattle.frame_bytes.specs.Frames.{asked_at, asked_field}
 use Rattle.frame_bytes.specs.Limits.{is_call, is_nonzero}
 use Rattle.frame_bytes.specs.Ranges.{HasAskedRanges}
-use Rattle.frame_bytes.specs.Readers.{Reader, byte_at, passing, counted, one, two}
+use Rattle.pico_base.specs.declared.fault.UnpackFault.{UnpackFault}
+use Rattle.pico_base.specs.declared.fault.UnpackFault.TheVariants.{Memory, NotABody}
+use Rattle.frame_bytes.specs.Readers.{Fails, Reader, byte_at, passing, counted, one, two}
 use Rattle.frame_bytes.proofs.Inverse.{Inverse, Field, Counted, Passes, byte-inverse, passing-inverse, counted-inverse, one-takes, two-takes, one-again, two-again}
 use Rattle.frame_bytes.proofs.FieldLaws.{word-field, whole-inverse}
 use Rattle.frame_bytes.proofs.FrameLaws.{IsAsked, asked-inverse}
@@ -347,23 +349,21 @@ one_set bytes a b h g = some_is a b (sym (set_again bytes a h) ∙ set_again byt
 
 -- ---- what unpacking tells
 
--- the fields behind the code, those who wait linked in their order
-pub body_found : (bytes fields : List ℕ) (row : SemaphoreSet) (ws : List Waiting) (nodes : List (Node Waiting))
-    → IsBytes bytes → bytes ≡ set_code ∷ fields → whole (fields_at fields) ≡ Some (awaited row ws)
-    → waiters_in nodes ≡ ws → IsBodyOf (held row nodes) bytes
-unfolding set_at
-body_found bytes fields row ws nodes fits is read linked =
-    let there : set_at bytes ≡ Some (awaited row ws) = ap set_at is ∙ read in
+-- a value that is read as its equal is
+pub value_same : (bytes after : List ℕ) (value other last : ℕ) → other ≡ value
+    → semaphore_at bytes ≡ Some (record { value = value; last = last }, after)
+    → semaphore_at bytes ≡ Some (record { value = other; last = last }, after)
+value_same bytes after value other last same read = rw same read
+
+-- the set of what was read, those who wait linked in their order
+pub body_found : (bytes : List ℕ) (row : SemaphoreSet) (ws : List Waiting) (nodes : List (Node Waiting))
+    → IsBytes bytes → set_at bytes ≡ Some (awaited row ws) → waiters_in nodes ≡ ws → IsBodyOf (held row nodes) bytes
+body_found bytes row ws nodes fits read linked =
     subst (λ (vs : List Waiting). IsBodyOf (awaited row vs) bytes) (sym linked)
-    (set_takes bytes (awaited row ws) fits there)
+    (set_takes bytes (awaited row ws) fits read)
 
--- no fields behind the code
-pub body_lacks : (bytes fields : List ℕ) → bytes ≡ set_code ∷ fields → whole (fields_at fields) ≡ None
+-- what is refused as no body is none's
+pub body_lacks : (fault : UnpackFault) (bytes : List ℕ) → Fails fault (set_at bytes) → fault ≡ NotABody
     → (set : Awaited SemaphoreSet) → IsBodyOf set bytes → ⊥
-unfolding set_at
-body_lacks bytes fields is none = no_set bytes (ap set_at is ∙ none)
-
--- no code
-pub code_lacks : (bytes : List ℕ) → ((fields : List ℕ) → bytes ≡ set_code ∷ fields → ⊥) → (set : Awaited SemaphoreSet)
-    → IsBodyOf set bytes → ⊥
-code_lacks bytes other set h = other (row_field set.state.semaphores ++ waiters_field set.waiters) h.spelled
+body_lacks Memory bytes none is = absurd (cc)
+body_lacks NotABody bytes none is = no_set bytes none

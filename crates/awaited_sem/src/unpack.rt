@@ -173,6 +173,17 @@ fn fields_of(alloc: Global, bytes: &[u8]) -> Result<(Row, Vec<Waiting>), UnpackF
     Ok((row, waiters))
 }
 
+/// The semaphores and those who wait, behind the code, which is read, too.
+#[tactic(auto, unfolding(crate::specs::Reading::set_at))]
+fn parts_of(alloc: Global, bytes: &[u8]) -> Result<(Row, Vec<Waiting>), UnpackFault>
+    ensures { Gives (λ x. awaited x.0 x.1.items) result (set_at bytes.now) }
+{
+    match bytes {
+        [CODE, fields @ ..] => fields_of(alloc, fields),
+        _ => Err(UnpackFault::NotABody),
+    }
+}
+
 /// Those who wait, linked in their order.
 fn linked(alloc: Global, waiters: Vec<Waiting>) -> Result<Links<Waiting>, Memory>
     ensures { IfOk result (λ links. waiters_in links.nodes ≡ waiters.items) }
@@ -206,10 +217,7 @@ impl SemSet {
         ensures only { (set : Awaited SemaphoreSet) → IsBodyOf set bytes.now → IfOk result (λ got. got ≡ set) }
         ensures refused { result ≡ Err NotABody → (set : Awaited SemaphoreSet) → IsBodyOf set bytes.now → ⊥ }
     {
-        let [CODE, fields @ ..] = bytes else {
-            return Err(UnpackFault::NotABody);
-        };
-        match fields_of(alloc, fields) {
+        match parts_of(alloc, bytes) {
             Ok((row, waiters)) => {
                 let waiters = linked(alloc, waiters)?;
                 Ok(SemSet { row, waiters })
