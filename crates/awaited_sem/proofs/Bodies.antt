@@ -136,8 +136,8 @@ HasParts set = IsRow set.state.semaphores × AreWaiters set.waiters
 parts-inverse : Inverse (Awaited SemaphoreSet) HasParts fields_of (two row_at waiters_at set-from)
 parts-inverse =
     whole-inverse (Awaited SemaphoreSet) HasParts fields_of (two row_at waiters_at set-from)
-    (two-takes (Awaited SemaphoreSet) HasParts fields_of (List Semaphore) (List Waiting) row-field waiters-field set-from
-    [] (λ a b. refl) (λ a b p q. (p, q)))
+    (two-takes (Awaited SemaphoreSet) HasParts fields_of (List Semaphore) (List Waiting) row-field waiters-field
+    set-from [] (λ a b. refl) (λ a b p q. (p, q)))
     (λ set rest f. ap (two row_at waiters_at set-from)
     (append_assoc (row_field set.state.semaphores) (waiters_field set.waiters) rest)
     ∙ two-again (List Semaphore) (List Waiting) (Awaited SemaphoreSet) row-field waiters-field set-from
@@ -239,8 +239,7 @@ settled_is : (set : SemaphoreSet) (ws : List Waiting) → AllByRecursion IsSetWa
 settled_is set [] h e = tt
 settled_is set (w ∷ ws) h e =
     let first = h.0 in
-    let both = and_parts (waits set w) (list_all (waits set) ws) e in
-    (
+    let both = and_parts (waits set w) (list_all (waits set) ws) e in (
       sym (by_steps set w.pid w.call first.call) ∙ none_is (try_steps set w.pid w.call) both.0,
       settled_is set ws h.1 both.1,
     )
@@ -258,11 +257,13 @@ each_asked : (set : SemaphoreSet) (ws : List Waiting) → AllByRecursion IsSetWa
     → AllByRecursion IsWaiter ws
 each_asked set [] h g r = tt
 each_asked set (w ∷ ws) h g r =
-    let first = h.0 in
-    (
+    let first = h.0 in (
       record {
-        fits = (r.0, and_from (is_nonzero w.ticket) (is_call w.call) (is_positive w.ticket first.ticket)
-            (asked_of_settled set w.pid w.call first.call g.0));
+        fits = (
+          r.0,
+          and_from (is_nonzero w.ticket) (is_call w.call) (is_positive w.ticket first.ticket)
+              (asked_of_settled set w.pid w.call first.call g.0),
+        );
         passes = is_short w.call first.call;
       },
       each_asked set ws h.1 g.1 r.1,

@@ -176,7 +176,8 @@ stopped_true false a e = absurd (cc)
 -- what has to wait is a semop of few operations
 short_of : (set : SemaphoreSet) (pid : ℕ) (call : Call) → try_set set pid call ≡ None → IsShortOp call
 short_of set pid (calls.SemOp id steps) e =
-    let waits = stopped_true (are_tried set steps && waits_for (stop_of set steps)) (changed set (op set pid steps)) e in
+    let waits = stopped_true (are_tried set steps && waits_for (stop_of set steps))
+    (changed set (op set pid steps)) e in
     leb-true (length steps) max_operations
     (first_true _ _ (first_true (are_tried set steps) (waits_for (stop_of set steps)) waits))
 short_of set pid call e = absurd (cc)

@@ -167,8 +167,7 @@ apart_behind : (ws : List Waiting) (w : Waiting) → HaveOwnProcesses ws
     → list_any (λ v. nat_eq w.pid v.pid) ws ≡ false → HaveOwnProcesses (ws ++ w ∷ [])
 apart_behind [] w h none = (tt, tt)
 apart_behind (v ∷ ws) w h none =
-    let both = or_parts (nat_eq w.pid v.pid) (list_any (λ v. nat_eq w.pid v.pid) ws) none in
-    (
+    let both = or_parts (nat_eq w.pid v.pid) (list_any (λ v. nat_eq w.pid v.pid) ws) none in (
       all_behind (λ x. nat_eq v.pid x.pid ≡ false) ws w h.0 (eq_other w.pid v.pid both.0),
       apart_behind ws w h.1 both.1,
     )

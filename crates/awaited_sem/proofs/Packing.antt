@@ -24,8 +24,7 @@ packs_further before out more w is range ws h =
     let fields : List ℕ = flat_map waiter_field ws in
     let all : flat_map waiter_field (ws ++ w ∷ []) ≡ fields ++ waiter_field w =
     flat_map-append waiter_field ws (w ∷ [])
-    ∙ ap (λ (r : List ℕ). fields ++ r) (flat_map-cons waiter_field w [] ∙ append-nil (waiter_field w)) in
-    (
+    ∙ ap (λ (r : List ℕ). fields ++ r) (flat_map-cons waiter_field w [] ∙ append-nil (waiter_field w)) in (
       is
           ∙ (ap (λ (r : List ℕ). r ++ waiter_field w) h.0
           ∙ (append_assoc before fields (waiter_field w) ∙ ap (λ (r : List ℕ). before ++ r) (sym all))),

@@ -60,7 +60,12 @@ asked_there pid ticket nodes at count slot w own is value holds r =
       waiter = w;
       before = waiters_in r.done;
       after = waiters_in s.rest;
-      found = rw (parts, find-append (is_asked pid ticket) (waiters_in r.done) (w ∷ waiters_in s.rest), none, holds) refl;
+      found = rw (
+        parts,
+        find-append (is_asked pid ticket) (waiters_in r.done) (w ∷ waiters_in s.rest),
+        none,
+        holds,
+      ) refl;
       at = value;
       parts = parts;
       left = waiters_left nodes r.done slot s;
@@ -214,12 +219,11 @@ first_none (n ∷ ns) e = absurd (cc)
 -- at the end all were told
 told_all : (tell : Waiting → Wake) (all now : List (Node Waiting)) (told : List Wake) (count : ℕ) → now ≡ []
     → Refused tell all now told count → (told ≡ map tell (waiters_in all)) × (now ≡ [])
-told_all tell all now told count none r =
-    (
-      sym (append-nil told)
+told_all tell all now told count none r = (
+  sym (append-nil told)
       ∙ (ap (λ (ns : List (Node Waiting)). told ++ map tell (waiters_in ns)) (sym none) ∙ r.whole),
-      none,
-    )
+  none,
+)
 
 pub refused_all : (tell : Waiting → Wake) (all now : List (Node Waiting)) (told : List Wake) (count : ℕ)
     → length all ≤ count → Refused tell all now told count → (told ≡ map tell (waiters_in all)) × (now ≡ [])

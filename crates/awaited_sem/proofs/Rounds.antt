@@ -153,7 +153,8 @@ module _ {T : Type 0} (try : Try T) where
       let object : (settle try start).object ≡ now = on.object ∙ ap (λ (s : Settled T). s.object) is
       in let wakes : (settle try start).wakes ≡ woken =
       on.wakes ∙ ap (λ (s : Settled T). woken ++ s.wakes) is ∙ append-nil woken
-      in ap (λ (x : Awaited T). settled x (settle try start).wakes) object ∙ ap (λ (ws : List Wake). settled now ws) wakes
+      in ap (λ (x : Awaited T). settled x (settle try start).wakes) object
+      ∙ ap (λ (ws : List Wake). settled now ws) wakes
 
   -- where nobody can go on settling is done
   pub settles_done : (start now next : Awaited T) (woken : List Wake) (left : ℕ)

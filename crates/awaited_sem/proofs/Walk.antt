@@ -177,5 +177,6 @@ waiters_left nodes done slot s =
     ap waiters_in s.left ∙ map-append (λ (m : Node Waiting). m.value) done s.rest
 
 -- one more at the end
-pub waiters_behind : (nodes : Nodes) (n : Node Waiting) → waiters_in (nodes ++ n ∷ []) ≡ waiters_in nodes ++ n.value ∷ []
+pub waiters_behind : (nodes : Nodes) (n : Node Waiting)
+    → waiters_in (nodes ++ n ∷ []) ≡ waiters_in nodes ++ n.value ∷ []
 waiters_behind nodes n = map-append (λ (m : Node Waiting). m.value) nodes (n ∷ [])

@@ -184,7 +184,8 @@ upto (value ∷ values) e =
     (ltb-false _ _ both.0, upto values both.1)
 
 -- after a SETALL
-pub set_all_within : (old : List Semaphore) (new : SemaphoreSet) (values : List ℕ) → set_all (set_of old) values ≡ Ok new
+pub set_all_within : (old : List Semaphore) (new : SemaphoreSet) (values : List ℕ)
+    → set_all (set_of old) values ≡ Ok new
     → IsWithinLimits (set_of old) → IsWithinLimits new
 set_all_within old new values e h =
     let a = passed_to (eqb (length values) (length old)) Einval _ new e in
@@ -220,6 +221,7 @@ new_within count some few =
     size : (n : ℕ) → length (replicate n new_semaphore) ≡ n
     size zero = refl
     size (suc n) = ap suc (size n)
+
     all_new : (n : ℕ) → AllByRecursion IsFine (replicate n new_semaphore)
     all_new zero = tt
     all_new (suc n) = (omega arith, all_new n)
@@ -233,7 +235,8 @@ changed_within : (state : SemaphoreSet) (r : Result SemaphoreSet Errno) (a : Att
     → IsWithinLimits state → ((new : SemaphoreSet) → r ≡ Ok new → IsWithinLimits new)
     → Some (changed state r) ≡ Some a → IsWithinLimits a.state
 changed_within state (Ok new) a h fine e =
-    subst (λ (x : Attempt SemaphoreSet). IsWithinLimits x.state) (some_attempt (attempt new (Num 0)) a e) (fine new refl)
+    subst (λ (x : Attempt SemaphoreSet). IsWithinLimits x.state) (some_attempt (attempt new (Num 0)) a e)
+    (fine new refl)
 changed_within state (Err errno) a h fine e =
     subst (λ (x : Attempt SemaphoreSet). IsWithinLimits x.state) (some_attempt (attempt state (Fail errno)) a e) h
 

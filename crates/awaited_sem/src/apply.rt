@@ -130,8 +130,8 @@ fn carry_out(
 }
 
 impl SemSet {
-    /// Carries out a call of a process, one of those on a set but its removal: it has its reply, and after a `semop` and
-    /// a `semctl` with SETVAL or SETALL whoever can go on is woken in turn, the first who parked first; or it parks
+    /// Carries out a call of a process, one of those on a set but its removal: it has its reply, and after a `semop`
+    /// and a `semctl` with SETVAL or SETALL whoever can go on is woken in turn, the first who parked first; or it parks
     /// behind those who wait, and then has no reply of its own. A `semop` parks where it stops at an operation without
     /// IPC_NOWAIT, else it has the reply of `op`. GETNCNT counts those who wait at a negative operation on the
     /// semaphore, GETZCNT those at a zero operation. A waiter whose operations come to stop at one with IPC_NOWAIT is

@@ -2,9 +2,6 @@
 //! caller parks until they can be. Whoever can go on after a change is woken, the first who parked first.
 #![tactic(auto)]
 
-#[cfg(test)]
-mod tests;
-
 mod apply;
 mod fault;
 mod pack;
@@ -12,6 +9,8 @@ mod row;
 mod semaphore;
 mod set;
 mod settling;
+#[cfg(test)]
+mod tests;
 mod trial;
 mod unpack;
 mod waiters;

@@ -45,11 +45,7 @@ fn wake_first(row: &mut Row, waiters: &mut Links<Waiting>) -> Option<Wake>
 }
 
 /// Wakes each who can go on, in order, from the first on again after each.
-pub(crate) fn settle(
-    row: &mut Row,
-    waiters: &mut Links<Waiting>,
-    mut wakes: Vec<Wake>,
-) -> Vec<Wake>
+pub(crate) fn settle(row: &mut Row, waiters: &mut Links<Waiting>, mut wakes: Vec<Wake>) -> Vec<Wake>
     requires nobody { wakes.items ≡ [] }
     requires room { length waiters.old.nodes ≤ vec_capacity wakes }
     ensures { settle try_steps (held row.old waiters.old.nodes)

@@ -63,7 +63,15 @@ fn settling(rt: HostRuntime) -> Result<(), Fail> {
     assert_eq!(rt; a.wakes.as_slice()[1].pid.0, 2);
     assert_eq!(rt; set.waiting(), 1);
     assert_eq!(rt; set.cancel(Pid(1), 12).is_none(), true);
-    let a = apply(&mut set, 5, Call::SemSetVal { id: Id(1), num: 0, value: 1 })?;
+    let a = apply(
+        &mut set,
+        5,
+        Call::SemSetVal {
+            id: Id(1),
+            num: 0,
+            value: 1,
+        },
+    )?;
     assert_eq!(rt; a.wakes.len(), 0);
     let w = set.remove()?;
     assert_eq!(rt; w.len(), 1);
@@ -89,7 +97,8 @@ fn cancelling(rt: HostRuntime) -> Result<(), Fail> {
 /// Code 5, one semaphore of value 0 and last process 0, one who waits: node 2, ticket 11, process 1, semop 9 on set 1
 /// with one operation: semaphore 0, -2, no nowait.
 const BODY: &[u8] = &[
-    5, 1, 0, 0, 0, 0, 0, 0, 1, 2, 0, 0, 0, 11, 0, 0, 0, 1, 9, 0, 0, 0, 1, 0, 1, 0, 0, 255, 255, 255, 254, 0,
+    5, 1, 0, 0, 0, 0, 0, 0, 1, 2, 0, 0, 0, 11, 0, 0, 0, 1, 9, 0, 0, 0, 1, 0, 1, 0, 0, 255, 255,
+    255, 254, 0,
 ];
 
 #[test]
@@ -101,7 +110,11 @@ fn bodies(rt: HostRuntime) -> Result<(), Fail> {
     assert_eq!(rt; again.waiting(), 1);
     assert_eq!(rt; again.pack()?.as_slice(), BODY);
     for length in 0..BODY.len() {
-        assert_eq!(rt; SemSet::is_packed(rt.alloc(), &BODY[..length])?, false, "{length}");
+        assert_eq!(rt;
+            SemSet::is_packed(rt.alloc(), &BODY[..length])?,
+            false,
+            "{length}"
+        );
     }
     // a waiter who could go on
     let mut ready = Vec::new(rt.alloc());

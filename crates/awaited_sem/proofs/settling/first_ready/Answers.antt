@@ -31,8 +31,7 @@ loop-preserved c =
 pub returns : goal.returns
 returns c =
     let all = c.loop-test.false in
-    let len = c.len-end.ensures in
-    (
+    let len = c.len-end.ensures in (
       none_ready c.args.row.now c.args.waiters.now.nodes
           (has_all c.args.waiters.now.nodes (WaitSo c.args.row.now) c.loop.at c.loop.counter (omega arith)
           c.loop.invariant.reached),
