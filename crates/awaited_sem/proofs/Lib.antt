@@ -1,0 +1,13 @@
+pub mod Bodies
+pub mod Calls
+pub mod Carried
+pub mod Kept
+pub mod Ops
+pub mod Packing
+pub mod Removed
+pub mod Rounds
+pub mod Told
+pub mod Trials
+pub mod Walk
+pub mod Within
+pub mod Writes
