@@ -58,7 +58,7 @@ fn usage(alloc: Global) -> Result<Answer, Memory>
         status: Status::Usage,
         text: Bytes::from_slice(
             alloc,
-            b"usage: pico run|sim|check|gen [--seed N] [--steps]\n",
+            b"usage: pico run|sim|check|gen|boxes [--seed N] [--steps]\n",
         )?,
         rested: RestedList::new(alloc),
     })
