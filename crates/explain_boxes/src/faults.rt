@@ -17,7 +17,7 @@ fn at<'a>(
     expected: &'static str,
     span: Span,
 ) -> Finding<'a>
-    ensures { result.number ≡ Some line.number }
+    ensures { result.number ≡ Some line.entry.number }
 {
     let fault = Fault::new(what, Text::plain(expected), span, Page::Sandboxes);
     Finding::at(alloc, line, fault, None)
@@ -41,7 +41,7 @@ fn span_of(word: Option<Word>) -> Span {
 
 // A line outside a sandbox.
 fn no_sandbox<'a>(alloc: Global, line: Line<'a>) -> Finding<'a>
-    ensures { result.number ≡ Some line.number }
+    ensures { result.number ≡ Some line.entry.number }
 {
     let words = Words::of(line.text);
     if words.get(0).is_none() || text_at(words, 0).starts_with(b"#") {
@@ -69,7 +69,7 @@ fn no_sandbox<'a>(alloc: Global, line: Line<'a>) -> Finding<'a>
 
 // A sandbox begins inside another.
 fn no_end<'a>(alloc: Global, bytes: &'a [u8], line: Line<'a>) -> Finding<'a>
-    ensures { result.number ≡ Some line.number }
+    ensures { result.number ≡ Some line.entry.number }
 {
     let what = Text::plain("a sandbox begins inside another");
     let expected = "a line `endsandbox` before this one";
@@ -110,7 +110,7 @@ fn named<'a>(bytes: &'a [u8], name: &[u8]) -> Option<Line<'a>> {
 
 // A sandbox ends that has no block.
 fn no_block<'a>(alloc: Global, line: Line<'a>) -> Finding<'a>
-    ensures { result.number ≡ Some line.number }
+    ensures { result.number ≡ Some line.entry.number }
 {
     let what = Text::plain("the sandbox has no block");
     let expected = "a block before this line: proc main, then a line for each call, then end";
@@ -125,7 +125,7 @@ fn no_block<'a>(alloc: Global, line: Line<'a>) -> Finding<'a>
 
 // A name that an earlier sandbox has.
 fn twice<'a>(alloc: Global, bytes: &'a [u8], line: Line<'a>) -> Finding<'a>
-    ensures { result.number ≡ Some line.number }
+    ensures { result.number ≡ Some line.entry.number }
 {
     let words = Words::of(line.text);
     let name = text_at(words, 1);
@@ -148,7 +148,7 @@ fn too_many<'a>(
     what: &'static str,
     expected: &'static str,
 ) -> Finding<'a>
-    ensures { result.number ≡ Some line.number }
+    ensures { result.number ≡ Some line.entry.number }
 {
     let span = span_of(Words::of(line.text).get(0));
     at(alloc, line, Text::plain(what), expected, span)
@@ -156,7 +156,7 @@ fn too_many<'a>(
 
 // A fault that isn't a script's, of a line that is there; none where the name is another's.
 fn of_line<'a>(alloc: Global, bytes: &'a [u8], line: Line<'a>, name: &[u8]) -> Option<Finding<'a>>
-    ensures { IfSome result (λ finding. finding.number ≡ Some line.number) }
+    ensures { IfSome result (λ finding. finding.number ≡ Some line.entry.number) }
 {
     match name {
         b"NoSandbox" => Some(no_sandbox(alloc, line)),
