@@ -9,8 +9,6 @@ mod row;
 mod semaphore;
 mod set;
 mod settling;
-#[cfg(test)]
-mod tests;
 mod trial;
 mod unpack;
 mod waiters;
