@@ -1,0 +1,2 @@
+pub mod WaiterLaws
+pub mod Passing
