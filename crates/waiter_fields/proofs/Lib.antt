@@ -1,2 +1,3 @@
 pub mod WaiterLaws
 pub mod Passing
+pub mod SettleLemmas
