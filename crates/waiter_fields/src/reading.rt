@@ -13,7 +13,7 @@ use std::alloc::Global;
 use waiting_model::Waiting;
 
 /// A node's number, 1 to 32.
-#[tactic(auto, unfolding(Rattle::frame_bytes::specs::Fields::node_at))]
+#[tactic(auto, unfolding(frame_bytes::specs::Fields::node_at))]
 fn node_of(bytes: &[u8]) -> Option<(u8, &[u8])>
     ensures read { Reads (λ x. (x.0, x.1.now)) result (node_at bytes.now) }
     ensures least { IfSome result (λ x. 1 ≤ x.0) }
@@ -27,7 +27,7 @@ fn node_of(bytes: &[u8]) -> Option<(u8, &[u8])>
 }
 
 /// A number of 4 bytes that is at least 1.
-#[tactic(auto, unfolding(Rattle::frame_bytes::specs::Fields::positive_at))]
+#[tactic(auto, unfolding(frame_bytes::specs::Fields::positive_at))]
 fn positive_of(bytes: &[u8]) -> Option<(u32, &[u8])>
     ensures { Reads (λ x. (x.0, x.1.now)) result (positive_at bytes.now) }
 {
