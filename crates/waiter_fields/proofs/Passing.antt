@@ -1,5 +1,5 @@
 -- Those who wait are passed over as they are read: their processes are those of the waiters, and so many.
-use Rattle.std.proofs.Common.{◌≡◌, ℕ, zero, suc, Bool, true, false, cond, List, [], ◌∷◌, length, Option, Some, None, refl, sym, ap, ◌∙◌}
+use Rattle.std.proofs.Common.{◌≡◌, ℕ, zero, suc, Bool, true, false, cond, ltb, List, [], ◌∷◌, length, Option, Some, None, refl, sym, ap, ◌∙◌}
 use Rattle.std.specs.Option.{option_map}
 use Rattle.pico_base.specs.declared.call.Call.{Call}
 use Rattle.pico_base.specs.Options.{◌>>=◌}
@@ -49,19 +49,23 @@ module _ (call_at : Reader Call) where
   by-others w None = refl
   by-others w (Some x) = refl
 
+  by-first : (n : ℕ) (o : Option (Waiting × List ℕ))
+      → ((bytes : List ℕ)
+      → many (process_at call_at) n bytes ≡ option_map all-of (many (waiter_at call_at) n bytes))
+      → (option_map one-of o >>= λ p. many (process_at call_at) n p.1 >>= λ x. Some (p.0 ∷ x.0, x.1))
+      ≡ option_map all-of (o >>= λ w. many (waiter_at call_at) n w.1 >>= λ x. Some (w.0 ∷ x.0, x.1))
+  by-first n None rec = refl
+  by-first n (Some w) rec =
+      ap (λ (o : Option (List ℕ × List ℕ)). o >>= λ x. Some (w.0.pid ∷ x.0, x.1)) (rec w.1)
+      ∙ by-others w (many (waiter_at call_at) n w.1)
+
   -- so many processes are those of so many waiters
   pub many-processes : (n : ℕ) (bytes : List ℕ)
       → many (process_at call_at) n bytes ≡ option_map all-of (many (waiter_at call_at) n bytes)
   unfolding many
   many-processes zero bytes = refl
-  many-processes (suc n) bytes = rw (one-process bytes) (by-first (waiter_at call_at bytes)) where
-    by-first : (o : Option (Waiting × List ℕ))
-        → (option_map one-of o >>= λ p. many (process_at call_at) n p.1 >>= λ x. Some (p.0 ∷ x.0, x.1))
-        ≡ option_map all-of (o >>= λ w. many (waiter_at call_at) n w.1 >>= λ x. Some (w.0 ∷ x.0, x.1))
-    by-first None = refl
-    by-first (Some w) =
-        ap (λ (o : Option (List ℕ × List ℕ)). o >>= λ x. Some (w.0.pid ∷ x.0, x.1)) (many-processes n w.1)
-        ∙ by-others w (many (waiter_at call_at) n w.1)
+  many-processes (suc n) bytes =
+      rw (one-process bytes) (by-first n (waiter_at call_at bytes) (λ rest. many-processes n rest))
 
   -- ---- the whole field
 
@@ -70,6 +74,12 @@ module _ (call_at : Reader Call) where
 
   abbrev counted-of : Option (List Waiting × List ℕ) → Option (ℕ × List ℕ)
   counted-of o = option_map (λ x. (length x.0, x.1)) (tested o)
+
+  by-test : (x : List Waiting × List ℕ) (told : ℕ × List ℕ) (b : Bool)
+      → (let y : ℕ × List ℕ = (length x.0, x.1) in y ≡ told)
+      → option_map (λ y. (length y.0, y.1)) (cond b (Some x) None) ≡ cond b (Some told) None
+  by-test x told true is = ap (λ (y : ℕ × List ℕ). Some y) is
+  by-test x told false is = refl
 
   by-waiters : (o : Option (List Waiting × List ℕ)) (count : ℕ) (pids after : List ℕ) (t : Bool)
       → ((x : List Waiting × List ℕ) → o ≡ Some x → length x.0 ≡ count)
@@ -81,13 +91,10 @@ module _ (call_at : Reader Call) where
       in let own : are_different (processes_of x.0) ≡ t =
       ap (λ (y : List ℕ × List ℕ). are_different y.0) same ∙ d
       in let rest : x.1 ≡ after = ap (λ (y : List ℕ × List ℕ). y.1) same
-      in let told : (length x.0, x.1) ≡ (count, after) =
-      ap (λ (n : ℕ). (n, x.1)) (len x refl) ∙ ap (λ (y : List ℕ). (count, y)) rest
-      in rw own (by-test t told) where
-        by-test : (b : Bool) → (length x.0, x.1) ≡ (count, after)
-            → option_map (λ y. (length y.0, y.1)) (cond b (Some x) None) ≡ cond b (Some (count, after)) None
-        by-test true told = ap (λ (y : ℕ × List ℕ). Some y) told
-        by-test false told = refl
+      in let told : (let y : ℕ × List ℕ = (length x.0, x.1) in y ≡ (count, after)) =
+      ap (λ (n : ℕ). (let y : ℕ × List ℕ = (n, x.1) in y)) (len x refl)
+      ∙ ap (λ (z : List ℕ). (let y : ℕ × List ℕ = (count, z) in y)) rest
+      in rw own (by-test x (count, after) t told)
 
   none-many : (o : Option (List Waiting × List ℕ)) → option_map all-of o ≡ None → counted-of o ≡ None
   none-many None e = refl
@@ -113,3 +120,61 @@ module _ (call_at : Reader Call) where
   unfolding waiters_at
   too-few bytes count rest first others =
       rw first (none-many (many (waiter_at call_at) count rest) (sym (many-processes count rest) ∙ others))
+
+  -- ---- those who are passed over are those who are read
+
+  abbrev with-length : List Waiting × List ℕ → ℕ × List ℕ
+  with-length x = (length x.0, x.1)
+
+  own-read : (n count : ℕ) (rest after : List ℕ) (x : List Waiting × List ℕ) (t : Bool)
+      → many (waiter_at call_at) n rest ≡ Some x
+      → option_map with-length (cond t (Some x) None) ≡ Some (count, after)
+      → cond t (Some x) None ≡ many (waiter_at call_at) count rest
+  own-read n count rest after x true is told =
+      let same = some_is (with-length x) (count, after) told
+      in let long : n ≡ count =
+      sym (many-length Waiting (waiter_at call_at) n rest x is) ∙ ap (λ (y : ℕ × List ℕ). y.0) same
+      in sym is ∙ ap (λ (k : ℕ). many (waiter_at call_at) k rest) long
+  own-read n count rest after x false is told = absurd cc
+
+  read-many : (n count : ℕ) (rest after : List ℕ) (o : Option (List Waiting × List ℕ))
+      → many (waiter_at call_at) n rest ≡ o → counted-of o ≡ Some (count, after)
+      → tested o ≡ many (waiter_at call_at) count rest
+  read-many n count rest after None is told = absurd cc
+  read-many n count rest after (Some x) is told =
+      own-read n count rest after x (are_different (processes_of x.0)) is told
+
+  abbrev from-count : Option (ℕ × List ℕ) → Option (List Waiting × List ℕ)
+  from-count o = o >>= λ n. many (waiter_at call_at) n.0 n.1
+
+  read-upto : (b count : ℕ) (rest after : List ℕ) (t : Bool)
+      → counted-of (from-count (cond t None (Some (b, rest)))) ≡ Some (count, after)
+      → tested (from-count (cond t None (Some (b, rest)))) ≡ many (waiter_at call_at) count rest
+  read-upto b count rest after true told = absurd cc
+  read-upto b count rest after false told =
+      read-many b count rest after (many (waiter_at call_at) b rest) refl told
+
+  read-behind : (b : ℕ) (rest : List ℕ) (count : ℕ) (after : List ℕ)
+      → count_of_waiters call_at (b ∷ rest) ≡ Some (count, after)
+      → waiters_at call_at (b ∷ rest) ≡ many (waiter_at call_at) count rest
+  unfolding waiters_at byte_upto
+  read-behind b rest count after told = read-upto b count rest after (ltb max_waiters b) told
+
+  -- behind the count
+  pub are-read : (bytes : List ℕ) (b : ℕ) (rest : List ℕ) (count : ℕ) (after : List ℕ) → bytes ≡ b ∷ rest
+      → count_of_waiters call_at bytes ≡ Some (count, after)
+      → waiters_at call_at bytes ≡ many (waiter_at call_at) count rest
+  are-read bytes b rest count after split told =
+      rw split (read-behind b rest count after (rw split at told))
+
+  -- of no bytes
+  pub none-of-nothing : (bytes : List ℕ) → bytes ≡ [] → waiters_at call_at bytes ≡ None
+  unfolding waiters_at byte_upto
+  none-of-nothing bytes nothing = rw nothing refl
+
+  -- where none are passed over none are read
+  pub none-read : (bytes : List ℕ) → count_of_waiters call_at bytes ≡ None → waiters_at call_at bytes ≡ None
+  none-read bytes told = by-read (waiters_at call_at bytes) told where
+    by-read : (o : Option (List Waiting × List ℕ)) → option_map with-length o ≡ None → o ≡ None
+    by-read None e = refl
+    by-read (Some x) e = absurd cc

@@ -91,11 +91,11 @@ fn read_many<C: WaitingCalls>(alloc: Global, count: u8, bytes: &[u8]) -> Read<'_
 pub fn read_waiters<C: WaitingCalls>(alloc: Global, bytes: &[u8]) -> Read<'_, Vec<Waiting>>
     ensures { Gives (λ x. (x.0.items, x.1.now)) result (waiters_at C.call_at bytes.now) }
 {
-    if skip_waiters::<C>(bytes).is_none() {
-        return Err(UnpackFault::NotABody);
-    }
-    let Some((count, rest)) = u8_at(bytes) else {
+    let Some((count, _)) = skip_waiters::<C>(bytes) else {
         return Err(UnpackFault::NotABody);
     };
-    read_many::<C>(alloc, count, rest)
+    match bytes.split_first() {
+        Some((_, rest)) => read_many::<C>(alloc, count, rest),
+        None => Err(UnpackFault::NotABody),
+    }
 }
