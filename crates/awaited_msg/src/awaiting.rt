@@ -217,6 +217,9 @@ impl Awaiting {
             (λ w. IsTaken (is_waiter pid ticket) self.old.waiters w self.new.waiters) }
         ensures state { self.new.state ≡ self.old.state }
     {
-        take_waiter(&mut self.waiters, pid, ticket)
+        match take_waiter(&mut self.waiters, pid, ticket) {
+            Some(waiter) => Some(waiter),
+            None => None,
+        }
     }
 }

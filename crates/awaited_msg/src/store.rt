@@ -1,9 +1,10 @@
 //! The messages of a queue and its numbers, without those who wait.
-ghost use Rattle.std.specs.Prelude.{◌≡◌, ◌≤◌, ◌+◌, ◌&&◌, ◌||◌, true, is_some, nat_le, nat_lt, length, take, ℕ, List, MatchOption, MatchResult, Ok, Err, Some, IsOk, OnOk};
+ghost use Rattle.std.specs.Prelude.{◌≡◌, ◌≤◌, ◌+◌, ◌∷◌, ◌++◌, [], ◌&&◌, ◌||◌, true, is_some, nat_le, nat_lt, length, take, ℕ, List, MatchOption, MatchResult, Ok, Err, Some, IsOk, OnOk};
 ghost use Rattle.kernel_model.specs.Queue.{empty_queue, bytes_in, max_messages, send, receive, set_qbytes, stat};
 ghost use Rattle.answer_laws.specs.Answers.{done_reply};
 ghost use Rattle.waiting_model.specs.Waiters.{attempt};
 ghost use Rattle.waiting_model.specs.Queue.{try_queue};
+ghost use Rattle.awaited_msg.specs.Linked.{messages_of};
 ghost use Rattle.awaited_msg.specs.Going.{can_send, can_receive, reply_of_message};
 
 use crate::Message;
@@ -78,6 +79,16 @@ fn cut(text: Bytes, size: u32) -> Bytes
     let mut bytes = text.into_vec();
     bytes.truncate(size as usize);
     Bytes::from_vec(bytes)
+}
+
+/// Adds a message behind the others, for which there is memory.
+fn push(links: &mut Links<Bytes>, class: i32, text: Bytes)
+    requires { 1 ≤ links.old.spare }
+    ensures messages { messages_of links.new.nodes
+        ≡ messages_of links.old.nodes ++ record { class = class; text = text } ∷ [] }
+    ensures spare { links.old.spare ≤ links.new.spare + 1 }
+{
+    let _ = links.push_reserved(class, text);
 }
 
 /// Whether a text of this length may be taken into `size` bytes, cut if need be where MSG_NOERROR is set.
@@ -175,7 +186,7 @@ impl Store {
             return Err(Errno::Eagain);
         }
         self.bytes += text.len();
-        let _ = self.messages.push_reserved(class, text);
+        push(&mut self.messages, class, text);
         self.last_sender = pid;
         Ok(())
     }
@@ -200,12 +211,12 @@ impl Store {
         if !fits(length, size, noerror) {
             return Err(Errno::E2big);
         }
-        let class = self.messages.class(slot);
+        let kind = self.messages.class(slot);
         let text = self.messages.unlink(slot);
         self.bytes -= length;
         self.last_receiver = pid;
         Ok(Message {
-            class,
+            class: kind,
             text: cut(text, size),
         })
     }
@@ -221,7 +232,10 @@ impl Store {
     fn can_receive(&self, class: i32) -> bool
         ensures { result ≡ can_receive self.now.queue class }
     {
-        selected(&self.messages, class).is_some()
+        match selected(&self.messages, class) {
+            Some(_) => true,
+            None => false,
+        }
     }
 
     /// Whether a call has its reply at once, and needn't wait.
