@@ -1,5 +1,5 @@
 -- The waiter that is taken out of its place is the one of its process, and without it the others are left.
-use Rattle.std.proofs.Common.{◌≡◌, ◌∙◌, ℕ, zero, suc, ◌≤◌, Bool, true, false, cond, not, ◌&&◌, ltb, List, [], ◌∷◌, length, Option, Some, None, refl, sym, ap, arith}
+use Rattle.std.proofs.Common.{◌≡◌, ◌∙◌, ℕ, zero, suc, ◌≤◌, Bool, true, false, cond, not, ◌&&◌, ltb, List, [], ◌∷◌, length, Option, Some, None, refl, sym, ap, subst, arith}
 use Rattle.std.specs.Prelude.{find, nat_eq, position, remove, slice_get, unwrap_or}
 use Rattle.std.specs.List.{filter, position_or_len}
 use Rattle.std.proofs.lemmas.Bool.{and_parts, eqb-true, ltb-false}
@@ -13,7 +13,8 @@ use Rattle.waiting_model.specs.Waiters.{Awaited, awaited, without_waiter}
 use Rattle.body_fields.proofs.Fields.{some_is}
 use Rattle.waiter_fields.specs.Settling.{IsTaken, is_waiter}
 use Rattle.waiter_fields.specs.Waiters.{are_different, processes_of}
-use Rattle.awaited_msg.proofs.Parking.{has, or-false, not-false}
+use Rattle.awaited_msg.specs.Limits.{AreParked}
+use Rattle.awaited_msg.proofs.Parking.{has, not-false, of-removed, or-false, parked-left}
 
 module _ {X : Type 0} (test : X → Bool) where
   -- the first that passes is found at its place
@@ -95,3 +96,20 @@ taken-is pid ticket q new w different same taken =
       found-at test q.waiters taken.place w taken.first taken.there,
       ap (λ (s : Queue). awaited s new.waiters) same ∙ ap (awaited q.state) left,
     )
+
+-- the queue and those who wait as they were
+pub same-again : (q new : Awaited Queue) → new.state ≡ q.state → new.waiters ≡ q.waiters → new ≡ q
+same-again q new state waiters =
+    ap (λ (s : Queue). awaited s new.waiters) state ∙ ap (awaited q.state) waiters
+
+pub parked-same : (q new : Awaited Queue) → AreParked q → new.state ≡ q.state → new.waiters ≡ q.waiters
+    → AreParked new
+parked-same q new p state waiters = subst AreParked (sym (same-again q new state waiters)) p
+
+-- without one of those who wait their limits are kept
+pub parked-taken : (test : Waiting → Bool) (q new : Awaited Queue) (w : Waiting) → AreParked q
+    → new.state ≡ q.state → IsTaken test q.waiters w new.waiters → AreParked new
+parked-taken test q new w p state taken =
+    parked-same (awaited q.state (remove q.waiters taken.place)) new
+    (parked-left q (awaited q.state (remove q.waiters taken.place)) p refl (of-removed q.waiters taken.place))
+    state taken.rest
