@@ -5,3 +5,4 @@ pub mod Receiving
 pub mod ReceiveLemmas
 pub mod Parking
 pub mod Taking
+pub mod BodyLaws

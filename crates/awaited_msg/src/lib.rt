@@ -7,8 +7,12 @@ mod awaiting;
 mod fault;
 mod links;
 mod message;
+mod pack;
 mod queue;
+mod reading;
 mod store;
+mod unpack;
+mod waits;
 
 pub use fault::SendFault;
 pub use message::Message;

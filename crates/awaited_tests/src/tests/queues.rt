@@ -1,6 +1,6 @@
 //! Who parks at a queue, who is woken and with what, and its bytes. What calls reply stands in the golden cases too.
 use awaited_msg::Queue;
-use pico_base::{Bytes, Call, Errno, Id, Memory, Node, Pid, Reply};
+use pico_base::{Bytes, Call, Errno, Id, Memory, Node, Pid, Reply, UnpackFault};
 use std::alloc::Global;
 use std::test::Fail;
 use waiting_model::{Applied, Waiting, Wakes};
@@ -215,5 +215,83 @@ fn a_wait_is_broken_off_by_its_ticket(rt: HostRuntime) -> Result<(), Fail> {
     assert_eq!(rt; waiter.pid, Pid(2));
     assert!(rt; !queue.waits(Pid(2)));
     assert!(rt; queue.waits(Pid(3)));
+    Ok(())
+}
+
+/// Code 4, `msg_qbytes` 4, last sender 1, last receiver 0, one message of type 1 and the text abcd; and two who wait:
+/// process 3 in a receive of type 2, and process 2 in a send of type 2 and the text ef, each on node 2 under its process
+/// number as a ticket.
+const BODY: &[u8] = b"\x04\x00\x00\x00\x04\x00\x00\x00\x01\x00\x00\x00\x00\x00\x01\x00\x00\x00\x01\x00\x00\x00\x04abcd\
+\x02\x02\x00\x00\x00\x03\x00\x00\x00\x03\x04\x00\x00\x00\x01\x00\x00\x00\x02\x00\x00\x00\x08\x00\x00\
+\x02\x00\x00\x00\x02\x00\x00\x00\x02\x03\x00\x00\x00\x01\x00\x00\x00\x02\x00\x00\x00\x02ef\x00";
+
+#[test]
+fn packed(rt: HostRuntime) -> Result<(), Fail> {
+    let alloc = rt.alloc();
+    let mut queue = Queue::new(alloc)?;
+    assert!(rt; replies(&mut queue, sets(1, 4), &DONE));
+    assert!(rt; replies(&mut queue, sends(alloc, 1, 1, b"abcd", true)?, &DONE));
+    assert!(rt; parks(&mut queue, receives(3, 2, false)));
+    assert!(rt; parks(&mut queue, sends(alloc, 2, 2, b"ef", false)?));
+    assert_eq!(rt; queue.pack()?.as_slice(), BODY);
+    Ok(())
+}
+
+#[test]
+fn unpacked(rt: HostRuntime) -> Result<(), Fail> {
+    let alloc = rt.alloc();
+    assert!(rt; Queue::is_packed(BODY));
+    let mut queue = Queue::unpack(alloc, BODY)?;
+    assert_eq!(rt; queue.waiting(), 2);
+    assert_eq!(rt; queue.pack()?.as_slice(), BODY);
+    let woken = wakes(&mut queue, receives(1, 0, true), &message(alloc, 1, b"abcd")?).ok_or("a reply")?;
+    assert_eq!(rt; woken.len(), 2);
+    assert!(rt; is_woken(&woken, 0, 2, &DONE));
+    assert!(rt; is_woken(&woken, 1, 3, &message(alloc, 2, b"ef")?));
+    Ok(())
+}
+
+/// Whether the bytes are refused as no body, with memory and without.
+fn is_refused(alloc: Global, bytes: &[u8]) -> bool {
+    !Queue::is_packed(bytes) && Queue::unpack(alloc, bytes).err() == Some(UnpackFault::NotABody)
+}
+
+/// A body with another byte at a place.
+fn with_byte(alloc: Global, place: usize, byte: u8) -> Result<Vec<u8>, Memory> {
+    let mut bytes = Vec::from_slice(alloc, BODY)?;
+    if place < bytes.len() {
+        bytes[place] = byte;
+    }
+    Ok(bytes)
+}
+
+#[test]
+fn a_body_that_ends_early(rt: HostRuntime) {
+    for length in 0..BODY.len() {
+        assert!(rt; is_refused(rt.alloc(), &BODY[..length]), "{length}");
+    }
+}
+
+#[test]
+fn refused_bodies(rt: HostRuntime) -> Result<(), Fail> {
+    // another code; a message of type 0; a waiter fewer; the receive takes type 1, as the message is, or may not wait;
+    // two of process 3; node 0; ticket 0; a receive without a queue's code; a send that may not wait, or has room
+    let rows: [(usize, u8); 11] = [
+        (0, 5),
+        (18, 0),
+        (27, 1),
+        (45, 1),
+        (51, 1),
+        (60, 3),
+        (28, 0),
+        (32, 0),
+        (37, 5),
+        (76, 1),
+        (4, 6),
+    ];
+    for (place, byte) in rows {
+        let bytes = with_byte(rt.alloc(), place, byte)?;
+        assert!(rt; is_refused(rt.alloc(), bytes.as_slice()), "{place}");
+    }
     Ok(())
 }
