@@ -6,3 +6,7 @@ pub mod ReceiveLemmas
 pub mod Parking
 pub mod Taking
 pub mod BodyLaws
+pub mod Packing
+pub mod Spelling
+pub mod Bodies
+pub mod Measuring

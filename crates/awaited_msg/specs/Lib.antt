@@ -5,3 +5,4 @@ pub mod Going
 pub mod Stored
 pub mod Body
 pub mod Reading
+pub mod Measured

@@ -60,11 +60,19 @@ queue_of qbytes sender receiver messages =
 unfoldable pub state_at : Reader Queue
 state_at bytes = four (number_upto w32 max_queue_bytes) word_at word_at messages_at queue_of bytes
 
--- all fields behind the code
-unfoldable pub fields_at : Reader (Awaited Queue)
-fields_at bytes = passing is_settled (two state_at (waiters_at call_at) awaited) bytes
+-- those who wait at a queue, with nothing behind them and none whose call could go on
+unfoldable pub settled_at : Queue → List ℕ → Option (Awaited Queue)
+settled_at q bytes = do
+  ws ← whole (waiters_at call_at bytes)
+  if is_settled (awaited q ws) then Some (awaited q ws) else None
+
+-- the code, and the queue's own fields
+abbrev pub coded_at : Reader Queue
+coded_at [] = None
+coded_at (code ∷ bytes) = if code == queue_code then state_at bytes else None
 
 -- a queue that all of the bytes spell
 unfoldable pub queue_at : List ℕ → Option (Awaited Queue)
-queue_at [] = None
-queue_at (code ∷ bytes) = if code == queue_code then whole (fields_at bytes) else None
+queue_at bytes = do
+  state ← coded_at bytes
+  settled_at state.0 state.1

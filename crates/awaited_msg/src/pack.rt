@@ -1,24 +1,45 @@
 //! A queue written as bytes.
-ghost use Rattle.std.specs.Prelude.{IfOk};
-ghost use Rattle.awaited_msg.specs.Body.{IsBodyOf};
+ghost use Rattle.std.specs.Prelude.{◌≡◌, ◌≤◌, ◌<◌, ◌^◌, ◌∷◌, ◌++◌, [], IfOk, IfSome, OnOk};
+ghost use Rattle.std.specs.List.{flat_map};
+ghost use Rattle.awaited_msg.specs.Body.{IsBodyOf, message_field, messages_field, numbers_field, queue_code};
+ghost use Rattle.awaited_msg.specs.Limits.{AreParked, IsWithinLimits};
+ghost use Rattle.awaited_msg.specs.Linked.{messages_of};
 
 use crate::Queue;
+use crate::awaiting::Awaiting;
 use crate::reading::CODE;
 use crate::store::Store;
 use index_links::Links;
 use pico_base::{Bytes, Memory};
 use waiter_fields::put_waiters;
 
+/// The number, where it has 32 bits.
+fn short_of(number: usize) -> Option<u32>
+    ensures { IfSome result (λ short. short ≡ number) }
+{
+    if number > u32::MAX as usize {
+        return None;
+    }
+    Some(number as u32)
+}
+
 /// Adds a message at the end: its type, the length of its text, and the text.
-fn push_message(out: &mut Vec<u8>, class: i32, text: &[u8]) -> Result<(), Memory> {
+fn push_message(out: &mut Vec<u8>, class: i32, text: &[u8]) -> Result<(), Memory>
+    ensures { OnOk result (out.new.items ≡ out.old.items ++ message_field (record { class = class; text = text.now })) }
+{
+    let Some(len) = short_of(text.len()) else {
+        return Err(Memory);
+    };
     out.extend_from_slice(&class.to_be_bytes())?;
-    out.extend_from_slice(&(text.len() as u32).to_be_bytes())?;
+    out.extend_from_slice(&len.to_be_bytes())?;
     out.extend_from_slice(text)?;
     Ok(())
 }
 
 /// Adds messages at the end, one by one.
-fn push_linked(links: &Links<Bytes>, out: &mut Vec<u8>) -> Result<(), Memory> {
+fn push_linked(links: &Links<Bytes>, out: &mut Vec<u8>) -> Result<(), Memory>
+    ensures { OnOk result (out.new.items ≡ out.old.items ++ flat_map message_field (messages_of links.now.nodes)) }
+{
     links.have_own_slots();
     let mut at = links.first();
     for _ in 0..links.len() {
@@ -33,18 +54,39 @@ fn push_linked(links: &Links<Bytes>, out: &mut Vec<u8>) -> Result<(), Memory> {
 
 impl Store {
     /// How many bytes the queue's own fields have, with the code.
-    fn size(&self) -> usize {
+    fn size(&self) -> usize
+        ensures { result ≤ 32768 }
+    {
         15 + 8 * self.messages.len() as usize + self.bytes
     }
 
     /// Adds the code and the queue's own fields at the end.
-    fn push_onto(&self, out: &mut Vec<u8>) -> Result<(), Memory> {
+    fn push_onto(&self, out: &mut Vec<u8>) -> Result<(), Memory>
+        ensures bytes { OnOk result (out.new.items ≡ out.old.items
+            ++ queue_code ∷ (numbers_field self.now.queue ++ messages_field self.now.queue.messages)) }
+        ensures limits { IsWithinLimits self.now.queue }
+        ensures sender { self.now.queue.last_sender < 2 ^ 32 }
+        ensures receiver { self.now.queue.last_receiver < 2 ^ 32 }
+    {
         out.push(CODE)?;
         out.extend_from_slice(&self.qbytes.to_be_bytes())?;
         out.extend_from_slice(&self.last_sender.0.to_be_bytes())?;
         out.extend_from_slice(&self.last_receiver.0.to_be_bytes())?;
         out.extend_from_slice(&(self.messages.len() as u16).to_be_bytes())?;
         push_linked(&self.messages, out)
+    }
+}
+
+impl Awaiting {
+    /// Adds the packed form at the end.
+    fn push_onto(&self, out: &mut Vec<u8>) -> Result<(), Memory>
+        requires parked { AreParked self.now }
+        requires nothing { out.old.items ≡ [] }
+        ensures { OnOk result (IsBodyOf self.now out.new.items) }
+    {
+        out.reserve(self.store.size() + 1)?;
+        self.store.push_onto(out)?;
+        put_waiters(self.allocator(), out, self.waiters.as_slice())
     }
 }
 
@@ -57,9 +99,8 @@ impl Queue {
         ensures { IfOk result (λ bytes. IsBodyOf self.now bytes) }
     {
         let alloc = self.awaiting.allocator();
-        let mut out = Vec::with_capacity(alloc, self.awaiting.store.size() + 1)?;
-        self.awaiting.store.push_onto(&mut out)?;
-        put_waiters(alloc, &mut out, self.awaiting.waiters.as_slice())?;
+        let mut out = Vec::new(alloc);
+        self.awaiting.push_onto(&mut out)?;
         Ok(Bytes::from_vec(out))
     }
 }

@@ -4,8 +4,9 @@ ghost use Rattle.std.specs.Option.{option_map};
 ghost use Rattle.body_fields.specs.Fields.{Reads};
 ghost use Rattle.frame_bytes.specs.Fields.{flag_at, signed_at, text_at, word_at};
 ghost use Rattle.frame_bytes.specs.Readers.{five, four, many};
-ghost use Rattle.kernel_model.specs.Queue.{bytes_of, max_text};
+ghost use Rattle.kernel_model.specs.Queue.{max_text};
 ghost use Rattle.pico_base.specs.declared.call.Call.TheVariants as calls;
+ghost use Rattle.awaited_msg.specs.Measured.{sized};
 ghost use Rattle.awaited_msg.specs.Reading.{class_at, message_at, message_of, short_at};
 
 use crate::store::{MAX_BYTES, MAX_MESSAGES, MAX_TEXT};
@@ -88,7 +89,7 @@ pub(crate) fn message_of(bytes: &[u8]) -> Option<(i32, &[u8], &[u8])>
 fn measured(count: u16, bytes: &[u8]) -> Option<(usize, &[u8])>
     requires { count ≤ 1024 }
     ensures { Reads (λ x. (x.0, x.1.now)) result
-        (option_map (λ x. (bytes_of x.0, x.1)) (many message_at count bytes.now)) }
+        (option_map sized (many message_at count bytes.now)) }
 {
     let mut size = 0;
     let mut rest = bytes;

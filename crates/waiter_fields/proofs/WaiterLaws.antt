@@ -8,10 +8,13 @@ use Rattle.body_fields.proofs.Fields.{byte_upto_takes, byte_upto_again}
 use Rattle.frame_bytes.specs.Readers.{Reader, counted}
 use Rattle.frame_bytes.specs.Fields.{IsNode, IsWord, word}
 use Rattle.frame_bytes.specs.Calls.{call_bytes}
+use Rattle.frame_bytes.specs.Limits.{is_nonzero}
+use Rattle.frame_bytes.specs.Ranges.{HasCallRanges}
+use Rattle.std.specs.List.{AllByRecursion}
 use Rattle.frame_bytes.proofs.Inverse.{Inverse, Field, Counted, Passes, passing-inverse, counted-inverse, renamed, two-takes, three-takes, two-again, three-again}
 use Rattle.frame_bytes.proofs.FieldLaws.{IsPositive, word-field, positive-field, node-field, whole-inverse}
 use Rattle.waiter_fields.specs.Waiters.{max_waiters, waiter_field, waiters_field, are_different, processes_of, head_at, waiter_of, waiter_at, waiters_at}
-use Rattle.waiter_fields.specs.Ranges.{IsWaiter, AreWaiters}
+use Rattle.waiter_fields.specs.Ranges.{IsWaiter, AreWaiters, HasWaiterRanges}
 
 -- ---- what stands before a call
 
@@ -89,3 +92,22 @@ module _ (IsCall : Call → Type 0) (call_at : Reader Call) (inverse : Inverse C
       (counted-inverse Waiting (λ n. n ≤ max_waiters)
       (λ n. n ∷ []) (byte_upto max_waiters) (IsWaiter IsCall) waiter_field (waiter_at call_at) count-inverse
       waiter-inverse))
+
+-- waiters whose numbers are in the ranges of their types have a spelling, where their calls do
+pub are-waiters : (IsCall : Call → Type 0) (ws : List Waiting) → AllByRecursion HasWaiterRanges ws
+    → AllByRecursion (λ w. is_nonzero w.ticket ≡ true) ws
+    → AllByRecursion (λ w. HasCallRanges w.call → IsCall w.call) ws
+    → AllByRecursion (IsWaiter IsCall) ws
+are-waiters IsCall [] ranges tickets calls = tt
+are-waiters IsCall (w ∷ ws) ranges tickets calls =
+    let r = ranges.0.1 in
+    (
+      record {
+        caller = ranges.0.0;
+        ticket = r.ticket;
+        positive = tickets.0;
+        pid = r.pid;
+        call = calls.0 r.call;
+      },
+      are-waiters IsCall ws ranges.1 tickets.1 calls.1,
+    )

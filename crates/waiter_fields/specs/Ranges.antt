@@ -5,9 +5,10 @@ use Rattle.std.specs.Option.{option_map}
 use Rattle.pico_base.specs.declared.call.Call.{Call}
 use Rattle.frame_bytes.specs.Fields.{IsNode, IsWord}
 use Rattle.frame_bytes.specs.Limits.{is_nonzero}
+use Rattle.frame_bytes.specs.Ranges.{HasAskedRanges}
 use Rattle.frame_bytes.specs.Readers.{Reader, two}
 use Rattle.waiting_model.specs.declared.callers.Waiting.{Waiting}
-use Rattle.waiter_fields.specs.Waiters.{are_different, head_at, max_waiters, processes_of, waiters_at}
+use Rattle.waiter_fields.specs.Waiters.{asked_of, are_different, head_at, max_waiters, processes_of, waiters_at}
 
 -- one who waits in a call of these
 pub record IsWaiter (IsCall : Call → Type 0) (w : Waiting) : Type 0 where
@@ -30,3 +31,7 @@ process_at call_at bytes = two head_at call_at (λ head call. head.2) bytes
 -- how many wait
 abbrev pub count_of_waiters : Reader Call → Reader ℕ
 count_of_waiters call_at bytes = option_map (λ x. (length x.0, x.1)) (waiters_at call_at bytes)
+
+-- the numbers of a waiter are in the ranges of their types
+abbrev pub HasWaiterRanges : Waiting → Type 0
+HasWaiterRanges w = HasAskedRanges (asked_of w)
