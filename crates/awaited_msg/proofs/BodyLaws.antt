@@ -144,6 +144,7 @@ pub record IsState (q : Queue) : Type 0 where
   pub receiver : IsWord q.last_receiver
   pub messages : AreMessages q.messages
 
+-- the queue's own fields behind the code
 abbrev pub state_field : Queue → List ℕ
 state_field q = word q.qbytes ++ (word q.last_sender ++ (word q.last_receiver ++ messages_field q.messages))
 
@@ -152,6 +153,7 @@ behind-state : (q : Queue) (rest : List ℕ)
     ++ (messages_field q.messages ++ rest)))
 behind-state q rest = refl
 
+-- they are read as they are spelled
 pub state-inverse : Inverse Queue IsState state_field state_at
 unfolding state_at
 state-inverse =
@@ -172,8 +174,8 @@ call-takes =
           calls.MsgSnd (3 ∷ []) (λ a b c d. refl)
           (λ a b c d p q r s. record { waits = refl; ranges = (p, q); within = r }),
       (
-        five-takes Call IsWaitingCall call_bytes ℕ ℤ ℕ Bool Bool word-field signed-field word-field flag-field flag-field
-            calls.MsgRcv (4 ∷ []) (λ a b c d e. refl)
+        five-takes Call IsWaitingCall call_bytes ℕ ℤ ℕ Bool Bool word-field signed-field word-field flag-field
+            flag-field calls.MsgRcv (4 ∷ []) (λ a b c d e. refl)
             (λ a b c d e p q r s t. record { waits = refl; ranges = (p, q, r); within = refl }),
         tt,
       ),

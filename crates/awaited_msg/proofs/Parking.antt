@@ -19,9 +19,11 @@ use Rattle.awaited_msg.specs.Limits.{AreParked, IsParked, is_queue_call, may_wai
 
 -- ---- some of a list, in order
 
+-- the process is one of theirs
 abbrev pub has : ℕ → List Waiting → Bool
 has pid ws = list_any (nat_eq pid) (processes_of ws)
 
+-- neither of two
 pub or-false : (a b : Bool) → (a || b) ≡ false → (a ≡ false) × (b ≡ false)
 or-false true b e = absurd cc
 or-false false b e = (refl, e)
@@ -51,6 +53,7 @@ of-rest w ws vs o =
       different = λ h. o.different (and_parts (not (has w.pid ws)) (are_different (processes_of ws)) h).1;
     }
 
+-- what doesn't hold
 pub not-false : (b : Bool) → not b ≡ true → b ≡ false
 not-false true e = absurd cc
 not-false false e = refl

@@ -102,6 +102,7 @@ pub same-again : (q new : Awaited Queue) → new.state ≡ q.state → new.waite
 same-again q new state waiters =
     ap (λ (s : Queue). awaited s new.waiters) state ∙ ap (awaited q.state) waiters
 
+-- and with the same who wait
 pub parked-same : (q new : Awaited Queue) → AreParked q → new.state ≡ q.state → new.waiters ≡ q.waiters
     → AreParked new
 parked-same q new p state waiters = subst AreParked (sym (same-again q new state waiters)) p

@@ -65,8 +65,8 @@ impl Awaiting {
         waits_among(self.waiters.as_slice(), pid)
     }
 
-    /// Carries out a call: it parks, or has its reply, and whoever that lets go on is woken. All memory that this may need
-    /// is taken first; where it is refused nothing changes, and the call comes back.
+    /// Carries out a call: it parks, or has its reply, and whoever that lets go on is woken. All memory that this may
+    /// need is taken first; where it is refused nothing changes, and the call comes back.
     pub(crate) fn carry_out(&mut self, who: Waiting) -> Result<Applied, (Memory, Waiting)>
         requires { length self.old.waiters < 32 }
         ensures ok { IfOk result (λ applied. IsCarried (carry_out_on_queue self.old who) self.new applied) }
@@ -202,7 +202,8 @@ impl Awaiting {
     /// What each who waits is told where the queue is removed; then nobody waits. Memory: the list of them was refused,
     /// and nothing changes.
     pub(crate) fn dismiss(&mut self) -> Result<Wakes, Memory>
-        ensures told { IfOk result (λ wakes. (wakes ≡ wakes_at_removal self.old) × (self.new ≡ unawaited self.old.state)) }
+        ensures told { IfOk result
+            (λ wakes. (wakes ≡ wakes_at_removal self.old) × (self.new ≡ unawaited self.old.state)) }
         ensures err { OnErr result (self.new ≡ self.old) }
     {
         let wakes = wakes_at_removal(self.allocator(), self.waiters.as_slice())?;

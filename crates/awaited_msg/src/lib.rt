@@ -1,6 +1,6 @@
-//! A System V message queue at which callers wait: messages of a type and a text are sent last, and received first or by
-//! their type; a send for which there is no room, and a receive for which there is no message, waits until a change of
-//! the queue lets it go on.
+//! A System V message queue at which callers wait: messages of a type and a text are sent last, and received first or
+//! by their type; a send for which there is no room, and a receive for which there is no message, waits until a change
+//! of the queue lets it go on.
 #![tactic(auto)]
 
 mod awaiting;

@@ -60,20 +60,27 @@ impl Store {
         15 + 8 * self.messages.len() as usize + self.bytes
     }
 
-    /// Adds the code and the queue's own fields at the end.
-    fn push_onto(&self, out: &mut Vec<u8>) -> Result<(), Memory>
-        ensures bytes { OnOk result (out.new.items ≡ out.old.items
-            ++ queue_code ∷ (numbers_field self.now.queue ++ messages_field self.now.queue.messages)) }
-        ensures limits { IsWithinLimits self.now.queue }
-        ensures sender { self.now.queue.last_sender < 2 ^ 32 }
-        ensures receiver { self.now.queue.last_receiver < 2 ^ 32 }
+    /// Adds the code and the queue's numbers at the end.
+    fn push_numbers(&self, out: &mut Vec<u8>) -> Result<(), Memory>
+        ensures bytes { OnOk result (out.new.items ≡ out.old.items ++ queue_code ∷ numbers_field self.now.queue) }
+        ensures sender { OnOk result (self.now.queue.last_sender < 2 ^ 32) }
+        ensures receiver { OnOk result (self.now.queue.last_receiver < 2 ^ 32) }
     {
         out.push(CODE)?;
         out.extend_from_slice(&self.qbytes.to_be_bytes())?;
         out.extend_from_slice(&self.last_sender.0.to_be_bytes())?;
         out.extend_from_slice(&self.last_receiver.0.to_be_bytes())?;
+        Ok(())
+    }
+
+    /// Adds the messages at the end, behind their count.
+    fn push_messages(&self, out: &mut Vec<u8>) -> Result<(), Memory>
+        ensures bytes { OnOk result (out.new.items ≡ out.old.items ++ messages_field self.now.queue.messages) }
+        ensures limits { OnOk result (IsWithinLimits self.now.queue) }
+    {
         out.extend_from_slice(&(self.messages.len() as u16).to_be_bytes())?;
-        push_linked(&self.messages, out)
+        push_linked(&self.messages, out)?;
+        Ok(())
     }
 }
 
@@ -85,16 +92,18 @@ impl Awaiting {
         ensures { OnOk result (IsBodyOf self.now out.new.items) }
     {
         out.reserve(self.store.size() + 1)?;
-        self.store.push_onto(out)?;
-        put_waiters(self.allocator(), out, self.waiters.as_slice())
+        self.store.push_numbers(out)?;
+        self.store.push_messages(out)?;
+        put_waiters(self.allocator(), out, self.waiters.as_slice())?;
+        Ok(())
     }
 }
 
 impl Queue {
     /// The queue as bytes, which `unpack` makes into an equal queue. A queue has one spelling: 4, `msg_qbytes` in
-    /// 4 bytes, the last sender and the last receiver in 4 each, the count of messages in 2, each message as its type in
-    /// 4 bytes, the length of its text in 4, and the text; and those who wait, as `waiter_fields` has them. Numbers are
-    /// big-endian.
+    /// 4 bytes, the last sender and the last receiver in 4 each, the count of messages in 2, each message as its type
+    /// in 4 bytes, the length of its text in 4, and the text; and those who wait, as `waiter_fields` has them. Numbers
+    /// are big-endian.
     pub fn pack(&self) -> Result<Bytes, Memory>
         ensures { IfOk result (λ bytes. IsBodyOf self.now bytes) }
     {

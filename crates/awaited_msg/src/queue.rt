@@ -15,8 +15,8 @@ use std::marker::Model;
 use waiting_model::{Applied, Waiting, Wakes};
 
 /// A message queue, which contracts see as its messages, the oldest first, with its `msg_qbytes`, last sender and last
-/// receiver, and those who wait at it, in the order in which they parked. It has at most 1,024 messages and their texts
-/// at most 16,384 bytes; each type is at least 1 and each text at most 4,096 bytes. At most 32 wait, each in a send or a
+/// receiver, and those who wait at it, in the order in which they parked. It has at most 1,024 messages and their
+/// texts at most 16,384 bytes; each type is at least 1 and each text at most 4,096 bytes. At most 32 wait, each in a send or a
 /// receive, under a ticket of at least 1, no two of one process, and none whose call could go on.
 #[derive(Drop)]
 pub struct Queue {
@@ -66,7 +66,8 @@ impl Queue {
     /// What each who waits is told where the queue is removed, in order: EIDRM. Then nobody waits, and the messages are
     /// left to whoever drops the queue. Memory: the list of them was refused, and nothing changes.
     pub fn remove(&mut self) -> Result<Wakes, Memory>
-        ensures told { IfOk result (λ wakes. (wakes ≡ wakes_at_removal self.old) × (self.new ≡ unawaited self.old.state)) }
+        ensures told { IfOk result
+            (λ wakes. (wakes ≡ wakes_at_removal self.old) × (self.new ≡ unawaited self.old.state)) }
         ensures err { OnErr result (self.new ≡ self.old) }
     {
         match self.awaiting.dismiss() {
@@ -75,8 +76,8 @@ impl Queue {
         }
     }
 
-    /// Takes out the waiter of this process that waits under this ticket; the others wait on in their order. None exactly
-    /// where there is no such waiter. It takes no memory.
+    /// Takes out the waiter of this process that waits under this ticket; the others wait on in their order. None
+    /// exactly where there is no such waiter. It takes no memory.
     pub fn cancel(&mut self, pid: Pid, ticket: u32) -> Option<Waiting>
         ensures { MatchOption result
             ((find (is_waiter pid ticket) self.old.waiters ≡ None) × (self.new ≡ self.old))

@@ -142,7 +142,7 @@ pub(crate) fn queue_fields(bytes: &[u8]) -> Option<Fields<'_>> {
     }
 }
 
-/// A send behind its code, and the bytes behind it: the queue's number, the type, the text, and whether it may not wait.
+/// A send behind its code, and the bytes behind it: the queue's number, the type, the text, and whether it never waits.
 pub(crate) fn send_of(bytes: &[u8]) -> Option<(u32, i32, &[u8], bool, &[u8])>
     ensures { Reads (λ x. (calls.MsgSnd x.0 x.1 x.2.now x.3, x.4.now)) result
         (four word_at signed_at text_at flag_at calls.MsgSnd bytes.now) }
@@ -154,8 +154,8 @@ pub(crate) fn send_of(bytes: &[u8]) -> Option<(u32, i32, &[u8], bool, &[u8])>
     Some((id, class, text, nowait, rest))
 }
 
-/// A receive behind its code, and the bytes behind it: the queue's number, the type, the size, whether a text may be cut,
-/// and whether it may not wait.
+/// A receive behind its code, and the bytes behind it: the queue's number, the type, the size, whether a text may be
+/// cut, and whether it never waits.
 pub(crate) fn receive_of(bytes: &[u8]) -> Option<(u32, i32, u32, bool, bool, &[u8])>
     ensures { Reads (λ x. (calls.MsgRcv x.0 x.1 x.2 x.3 x.4, x.5.now)) result
         (five word_at signed_at word_at flag_at flag_at calls.MsgRcv bytes.now) }

@@ -171,8 +171,8 @@ impl Store {
         None
     }
 
-    /// msgsnd, where there is memory for the message: EINVAL for a type below 1 and a text above the limit, EAGAIN where
-    /// there is no room.
+    /// msgsnd, where there is memory for the message: EINVAL for a type below 1 and a text above the limit, EAGAIN
+    /// where there is no room.
     pub(crate) fn send(&mut self, pid: Pid, class: i32, text: Bytes) -> Result<(), Errno>
         requires { 1 ≤ self.old.room }
         ensures sent { MatchResult result (λ _. send self.old.queue pid class text ≡ Ok self.new.queue)

@@ -91,7 +91,9 @@ fn send_waits(fields: &Fields<'_>, class: i32, len: usize, nowait: bool) -> bool
     !nowait
         && class >= 1
         && len <= MAX_TEXT
-        && (fields.size + len > fields.qbytes as usize || u32::from(fields.count) >= MAX_MESSAGES)
+        && (fields.size > fields.qbytes as usize
+            || len > fields.qbytes as usize - fields.size
+            || u32::from(fields.count) >= MAX_MESSAGES)
 }
 
 /// Whether one of so many messages has a type in this range.
