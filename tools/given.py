@@ -3,9 +3,15 @@ from __future__ import annotations
 
 MAX_SEED = 2147483646
 # the modes that read standard input, and the most that each reads
-READS = {"run": 1048576, "sim": 1048576, "check": 68161537}
+READS = {"run": 1048576, "sim": 1048576, "check": 68161537, "boxes": 1048576}
 # the options that go with each mode
-OPTIONS = {"run": {"--steps"}, "sim": {"--seed", "--steps"}, "check": set(), "gen": {"--seed", "--steps"}}
+OPTIONS = {
+    "run": {"--steps"},
+    "sim": {"--seed", "--steps"},
+    "check": set(),
+    "gen": {"--seed", "--steps"},
+    "boxes": set(),
+}
 
 
 class Given:

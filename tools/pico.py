@@ -35,6 +35,8 @@ pico runs a script of processes and writes a trace: every call in one order, its
   ./pico check [FILE]                       judges a script, a line `trace` and a trace: whether a single kernel could
                                             have given that trace to the script's processes
   ./pico gen [--seed N] [--steps]           runs the generated script of number N with threads, and writes the totals
+  ./pico boxes [FILE]                       runs the scripts of several sandboxes at once, each as `run` does, and writes
+                                            for each its name and its trace
 
   FILE       what is read; standard input where it is left out
   --seed N   the number of the schedule or of the generated script, from 0 to 2147483646; 0 where it is left out

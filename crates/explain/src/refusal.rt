@@ -5,6 +5,7 @@ ghost use Rattle.explain_base.specs.Shown.{IsShown};
 ghost use Rattle.explain.specs.Refusal.{begins_with, is_refusal};
 
 use explain_base::{Finding, Page, Text, text_of};
+use explain_boxes::{explain_boxes, script_alone};
 use explain_script::explain_script;
 use explain_trace::{explain_trace, trace_line};
 use explain_words::{Given, explain_words};
@@ -31,10 +32,10 @@ fn numbered<'a>(text: &'a [u8], between: &[u8]) -> Option<(usize, &'a [u8])> {
     }
 }
 
-// Whether the words ask for a trace to be judged.
-fn is_check(words: &[String]) -> bool {
+// Whether the words ask for this mode.
+fn asks_for(words: &[String], mode: &str) -> bool {
     match Given::of(words).first {
-        Some(word) => word.text == "check",
+        Some(word) => word.text == mode,
         None => false,
     }
 }
@@ -65,12 +66,27 @@ fn of_script<'a>(
         let what = Text::plain("the script has a fault");
         return Ok(Finding::without_line(alloc, what, Text::none(), None, Page::Faults));
     };
-    let (script, ends_at_trace) = if is_check(words) {
+    let (script, ends_at_trace) = if asks_for(words, "check") {
         script_in(bytes)
     } else {
         (bytes, false)
     };
     explain_script(alloc, script, number, name, ends_at_trace)
+}
+
+// What is told of a fault of several sandboxes, which is told behind `fault: line `.
+fn of_boxes(alloc: Global, told: &[u8], bytes: &[u8]) -> Result<Vec<u8>, AllocError>
+    ensures some { IfOk result (λ text. 0 < vec_len text) }
+    ensures shown { IfOk result (λ text. All IsShown text.items) }
+{
+    let Some((number, name)) = numbered(told, b": ") else {
+        let what = Text::plain("the sandboxes have a fault");
+        let finding = Finding::without_line(alloc, what, Text::none(), None, Page::Sandboxes);
+        return text_of(alloc, &finding);
+    };
+    let alone = script_alone(alloc, bytes, number)?;
+    let finding = explain_boxes(alloc, bytes, alone.as_slice(), number, name)?;
+    text_of(alloc, &finding)
 }
 
 // What is told of a fault of a trace, which is told behind `not legal: `.
@@ -108,6 +124,9 @@ pub fn explain<'a>(
     ensures shown { IfOk result (λ text. All IsShown text.items) }
 {
     if let Some(told) = behind(line, b"fault: line ") {
+        if asks_for(words, "boxes") {
+            return of_boxes(alloc, told, bytes);
+        }
         let finding = of_script(alloc, told, words, bytes)?;
         return text_of(alloc, &finding);
     }

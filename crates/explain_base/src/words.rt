@@ -119,6 +119,18 @@ impl<'a> Words<'a> {
         words
     }
 
+    /// These words before one of them, and from that one on.
+    pub fn split_at(self, word: Word<'a>) -> (Self, Self) {
+        let size = word.start.saturating_sub(self.at);
+        let (front, rest) = self.rest.split_at(size.min(self.rest.len()));
+        let at = self.at.saturating_add(front.len());
+        let front = Words {
+            rest: front,
+            at: self.at,
+        };
+        (front, Words { rest, at })
+    }
+
     /// Whether no word is left.
     pub fn is_empty(self) -> bool {
         self.get(0).is_none()

@@ -5,7 +5,9 @@ use crate::entry::{Entry, entry_of, sign_in, span_of, text_of_words};
 use crate::errors::meaning;
 use crate::judged::Judged;
 use crate::walk::{Process, Walk};
-use explain_base::{Fault, Finding, Line, Other, Page, Piece, Span, Style, Text, Words};
+use explain_base::{
+    Fault, Finding, Line, Other, Page, Piece, Span, Style, Text, Words, without_blanks,
+};
 use explain_calls::{Call, Told, others, text_at};
 use std::alloc::{AllocError, Global};
 
@@ -78,6 +80,8 @@ pub fn another_call<'a>(
         no_call_left(judged, pid, walk.process(pid))
     } else if due.starts_with(b"killed ") {
         Told::alone(killed(line.text, pid, due))
+    } else if due.starts_with(b"withdraw ") {
+        Told::alone(waits(line.text, pid, due))
     } else {
         let fault = call_left(line.text, entry.is_some(), pid, due);
         let other = line_due(walk.line_due(pid), due);
@@ -110,6 +114,22 @@ fn killed<'a>(line: &'a [u8], pid: &'a [u8], due: &'a [u8]) -> Fault<'a> {
         Piece::plain(" "),
         Piece::whole(due),
         Piece::plain(" = ended"),
+    );
+    Fault::new(what, expected, call_span(line), Page::Checking)
+}
+
+// A process waits, and the trace goes on with it.
+fn waits<'a>(line: &'a [u8], pid: &'a [u8], due: &'a [u8]) -> Fault<'a> {
+    let what = Text::whole_in(
+        "process ",
+        pid,
+        " waits, and makes no call before it is woken",
+    );
+    let expected = Text::four(
+        Piece::whole(pid),
+        Piece::plain(" "),
+        Piece::whole(due),
+        Piece::plain(" = EINTR, or a line that wakes it"),
     );
     Fault::new(what, expected, call_span(line), Page::Checking)
 }
@@ -197,30 +217,70 @@ fn no_reply<'a>(line: &'a [u8], entry: Option<Entry<'a>>) -> Fault<'a> {
     Fault::new(what, Text::plain(expected), call_span(line), Page::Kernel)
 }
 
+// What the kernel's reply to the caller itself says, where it says more than itself.
+fn says_of(own: &[u8]) -> &'static str {
+    if own == b"parked".as_slice() {
+        ": the call waits"
+    } else {
+        meaning(own).unwrap_or("")
+    }
+}
+
 // The kernel replies otherwise than a line, whose reply is there or else the whole line.
-fn other_reply<'a>(kernel: &'a [u8], span: Span) -> Fault<'a> {
-    let says = Piece::plain(meaning(kernel).unwrap_or(""));
-    let expected = Text::two(Piece::of(Style::Reply, kernel), says);
+fn other_reply<'a>(own: &'a [u8], span: Span) -> Fault<'a> {
+    let expected = Text::two(Piece::of(Style::Reply, own), Piece::plain(says_of(own)));
     let what = Text::plain("a single kernel replies otherwise here");
     Fault::new(what, expected, span, Page::Kernel)
 }
 
-/// What is told where the kernel replies otherwise than the trace has it: `told` is its reply, `trace`, and that of the
-/// trace.
+// The kernel wakes others than a line, or with other replies. What the line has of it is there.
+fn other_wakes<'a>(wakes: &'a [u8], span: Span) -> Fault<'a> {
+    let expected = if wakes.is_empty() {
+        Text::plain("nobody is woken, and the line ends behind the node")
+    } else {
+        Text::one(Piece::of(Style::Reply, wakes))
+    };
+    let what = Text::plain("a single kernel wakes otherwise here");
+    Fault::new(what, expected, span, Page::Kernel)
+}
+
+// What stands before the first word that is this one, and from there on: a text between quotes is one word.
+fn parted<'a>(told: &'a [u8], mark: &[u8]) -> (&'a [u8], &'a [u8]) {
+    for word in Words::of(told) {
+        if word.text == mark {
+            let (front, rest) = told.split_at(word.start.min(told.len()));
+            return (without_blanks(front), rest);
+        }
+    }
+    (told, b"")
+}
+
+// What is told where the kernel has this outcome and the line another.
+fn another_outcome<'a>(kernel: &'a [u8], line: &'a [u8], entry: Option<Entry<'a>>) -> Fault<'a> {
+    let (own, wakes) = parted(kernel, b"wakes");
+    let whole = Span::of(0, line.len());
+    match entry {
+        Some(entry) if text_of_words(line, entry.reply) == own => {
+            let behind = Span::of(line.len(), line.len().saturating_add(1));
+            other_wakes(wakes, span_of(entry.wakes).unwrap_or(behind))
+        }
+        Some(entry) => other_reply(own, span_of(entry.reply).unwrap_or(whole)),
+        None => other_reply(own, whole),
+    }
+}
+
+/// What is told where the call comes to something else in the kernel than the trace has: `told` is what it comes to
+/// there, `trace`, and what the trace has.
 pub fn another_reply<'a>(alloc: Global, judged: Judged<'a>, told: &'a [u8]) -> Finding<'a>
     ensures { result.number ≡ Some judged.entry.number }
 {
     let line = judged.line();
     let entry = entry_of(line.text);
-    let (replied, span) = match entry {
-        Some(entry) => (text_of_words(line.text, entry.reply), span_of(entry.reply)),
-        None => (b"".as_slice(), None),
-    };
-    let kernel = before_mark(told, b" trace ", replied);
+    let (kernel, _) = parted(told, b"trace");
     let fault = if kernel == b"none".as_slice() {
         no_reply(line.text, entry)
     } else {
-        other_reply(kernel, span.unwrap_or(Span::of(0, line.text.len())))
+        another_outcome(kernel, line.text, entry)
     };
     Finding::at(alloc, line, fault, None)
 }

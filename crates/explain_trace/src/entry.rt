@@ -3,12 +3,13 @@
 use explain_base::{Span, Word, Words};
 use explain_calls::{count_of, text_at};
 
-/// A line of a trace: the process, the words of the call, and those of the reply.
+/// A line of a trace: the process, the words of the call, those of the reply, and those of the callers that it wakes.
 #[derive(Clone, Copy)]
 pub struct Entry<'a> {
     pub pid: &'a [u8],
     pub call: Words<'a>,
     pub reply: Words<'a>,
+    pub wakes: Words<'a>,
 }
 
 /// Whether so many words are there.
@@ -50,11 +51,16 @@ pub fn sign_in(line: &[u8]) -> Option<(usize, Word<'_>)> {
     None
 }
 
-/// The last word but one and the last.
-pub fn last_two(line: &[u8]) -> Option<(Word<'_>, Word<'_>)> {
-    let words = Words::of(line);
-    let before = words.get(words.count().checked_sub(2)?)?;
-    Some((before, words.last()?))
+/// The word `by` behind the sign, which is the word at that place; and the words behind it.
+pub fn by_in(line: &[u8], sign: usize) -> Option<(Word<'_>, Words<'_>)> {
+    let mut left = Words::of(line).behind(sign.saturating_add(1));
+    for word in left {
+        let _ = left.next();
+        if word.text == b"by".as_slice() {
+            return Some((word, left));
+        }
+    }
+    None
 }
 
 /// The entry of a line, where it has the shape of one.
@@ -62,14 +68,23 @@ pub fn entry_of(line: &[u8]) -> Option<Entry<'_>> {
     let words = Words::of(line);
     let first = words.get(0)?;
     let (place, sign) = sign_in(line)?;
-    let (by, _) = last_two(line)?;
-    if by.text != b"by".as_slice() || words.get(4).is_none() {
-        return None;
-    }
+    let (by, behind) = by_in(line, place)?;
+    let _ = behind.get(0)?;
     let pid = first.text;
     let call = before(line, sign).behind(1);
     let reply = before(line, by).behind(place.saturating_add(1));
-    Some(Entry { pid, call, reply })
+    let wakes = behind.behind(1);
+    Some(Entry {
+        pid,
+        call,
+        reply,
+        wakes,
+    })
+}
+
+/// Whether these words are those of a call that waits.
+pub fn is_parked(reply: Words) -> bool {
+    are_like(reply, &["parked"])
 }
 
 /// The bytes from the first word to the last.

@@ -1,7 +1,8 @@
 //! What is wrong with the text of one line of a trace, which has to be just as the program writes it.
 
-use crate::entry::{are, before, last_two, sign_in};
-use crate::replies::{wrong_order, wrong_reply, wrong_spelling};
+use crate::entry::{are, before, by_in, sign_in};
+use crate::replies::{wrong_order, wrong_own, wrong_spelling};
+use crate::wakes::wrong_wakes;
 use explain_base::{Fault, Lines, Nearest, Page, Piece, Span, Style, Text, Word, Words, Wrong};
 use explain_calls::{
     CALL_NAMES, CALLS, Form, GREATEST, Range, fault_of, is_variable, number, plain_wrong, signal,
@@ -9,7 +10,7 @@ use explain_calls::{
 };
 
 /// How a line of a trace is written.
-pub const FORM: &str = "PID CALL = REPLY by NODE";
+pub const FORM: &str = "PID CALL = REPLY by NODE [wakes PID REPLY ..]";
 
 /// The name of a block that a line `proc` begins; nothing where it begins none.
 fn begun_by(line: &[u8]) -> Option<&[u8]> {
@@ -124,10 +125,10 @@ fn behind_pid<'a>(script: &'a [u8], line: &'a [u8]) -> Option<Fault<'a>> {
 
 // What is wrong behind the sign, which is the word at that place.
 fn behind_call<'a>(script: &'a [u8], line: &'a [u8], place: usize) -> Option<Fault<'a>> {
-    match last_two(line) {
-        Some((by, node)) if by.text == b"by".as_slice() => {
+    match by_in(line, place) {
+        Some((by, behind)) if !behind.is_empty() => {
             let reply = before(line, by).behind(place.saturating_add(1));
-            wrong_reply(reply, by).or(wrong_node(script, node))
+            wrong_own(reply, by).or(wrong_behind(script, behind))
         }
         _ => {
             let what = "the line doesn't end with the node that carried the call out";
@@ -136,10 +137,17 @@ fn behind_call<'a>(script: &'a [u8], line: &'a [u8], place: usize) -> Option<Fau
     }
 }
 
+// What is wrong with the node, and with the callers that are woken.
+fn wrong_behind<'a>(script: &'a [u8], words: Words<'a>) -> Option<Fault<'a>> {
+    let node = words.get(0)?;
+    wrong_node(script, node).or(wrong_wakes(words.behind(1)))
+}
+
 // What is wrong with the words before the sign and behind the process's number.
 fn wrong_call<'a>(script: &'a [u8], words: Words<'a>, sign: Word<'a>) -> Option<Fault<'a>> {
     match words.get(0) {
         Some(first) if first.text == b"killed".as_slice() => wrong_end(words, first),
+        Some(first) if first.text == b"withdraw".as_slice() => wrong_withdrawal(words, first),
         Some(first) => wrong_words(script, words, first, sign.start.saturating_sub(1)),
         None => {
             let wrong = plain_wrong("the line has no call", CALLS, sign.span());
@@ -190,6 +198,33 @@ fn wrong_end<'a>(words: Words<'a>, first: Word<'a>) -> Option<Fault<'a>> {
         plain_wrong("`killed` has one signal behind it", "killed G", last.span())
     };
     Some(wrong.fault("killed G", Page::Trace))
+}
+
+// How a withdrawal is written.
+const WITHDRAWAL: &str = "withdraw msg Q | withdraw sem S | withdraw proc P";
+
+// What is wrong with the words of a withdrawal.
+fn wrong_withdrawal<'a>(words: Words<'a>, first: Word<'a>) -> Option<Fault<'a>> {
+    let last = words.last().unwrap_or(first);
+    let wrong = if !are(words, 3) {
+        plain_wrong(
+            "`withdraw` names where the process waits",
+            "a word and a number",
+            last.span(),
+        )
+    } else {
+        wrong_place(words)?
+    };
+    Some(wrong.fault(WITHDRAWAL, Page::Trace))
+}
+
+// What is wrong with the words of the place where a process waits.
+fn wrong_place<'a>(words: Words<'a>) -> Option<Wrong<'a>> {
+    let kind = words.get(1)?;
+    match kind.text {
+        b"msg" | b"sem" | b"proc" => number(words.get(2)?, Range::of("N", 0, GREATEST)),
+        _ => Some(plain_wrong("no process waits at this", "msg, sem or proc", kind.span())),
+    }
 }
 
 fn wrong_block<'a>(script: &'a [u8], name: Word<'a>) -> Option<Fault<'a>> {

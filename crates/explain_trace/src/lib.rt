@@ -8,6 +8,7 @@ mod fields;
 mod judged;
 mod replies;
 mod totals;
+mod wakes;
 mod walk;
 mod written;
 

@@ -1,16 +1,17 @@
 //! What is wrong with a reply, and with what a trace spells in one way.
 
-use crate::entry::span_of;
+use crate::entry::{is_parked, span_of};
 use crate::errors::{ERRORS_AND_ENDED, meaning};
 use crate::fields::FORM;
-use explain_base::{Fault, Nearest, Page, Piece, SIGNALS, Style, Text, Word, Words, Wrong};
+use crate::wakes::is_sign;
+use explain_base::{Fault, Nearest, Page, Piece, SIGNALS, Span, Style, Text, Word, Words, Wrong};
 use explain_calls::{
     GREATEST, Range, count_of, is_signal, message_text, number, plain_wrong, signal, signal_set,
     text_at,
 };
 
 const REPLIES: &str = "a number | PID exited N | PID killed G | TYPE TEXT | signals | \
-    qnum N qbytes N lspid N lrpid N | all V,V,.. | ended | an error's name";
+    qnum N qbytes N lspid N lrpid N | all V,V,.. | ended | an error's name | parked, of a call that waits";
 
 // The names in the reply of a queue's state, with a number behind each.
 static QUEUE: [&str; 4] = ["qnum", "qbytes", "lspid", "lrpid"];
@@ -175,10 +176,31 @@ fn wrong_words<'a>(words: Words<'a>, first: Word<'a>) -> Option<Wrong<'a>> {
     }
 }
 
-/// What is wrong with a reply, which stands before the word `by`.
-pub fn wrong_reply<'a>(words: Words<'a>, by: Word<'a>) -> Option<Fault<'a>> {
+// A caller that is woken, and stands before the node.
+fn misplaced_wake(words: Words<'_>) -> Option<Fault<'_>> {
+    for word in words {
+        if is_sign(word) {
+            let what = "whom a call wakes stands behind the node";
+            let wrong = plain_wrong(what, "by NODE, and then wakes PID REPLY", word.span());
+            return Some(wrong.fault(FORM, Page::Trace));
+        }
+    }
+    None
+}
+
+/// What is wrong with the reply to the caller itself, which stands before the word `by`.
+pub fn wrong_own<'a>(words: Words<'a>, by: Word<'a>) -> Option<Fault<'a>> {
+    if is_parked(words) {
+        None
+    } else {
+        misplaced_wake(words).or(wrong_reply(words, by.span()))
+    }
+}
+
+/// What is wrong with a reply; where it lacks, at this place.
+pub fn wrong_reply<'a>(words: Words<'a>, place: Span) -> Option<Fault<'a>> {
     let Some(first) = words.get(0) else {
-        let wrong = plain_wrong("the line has no reply", "a reply", by.span());
+        let wrong = plain_wrong("the line has no reply", "a reply", place);
         return Some(wrong.fault(FORM, Page::Trace));
     };
     match wrong_words(words, first) {

@@ -3,6 +3,7 @@
 use crate::entry::{Entry, are, are_like, entry_of};
 use crate::errors::{is_not_ready, meaning};
 use crate::fields::wrong_blanks;
+use crate::wakes::first_wake;
 use explain_base::{Fault, Lines, Page, Piece, Span, Text, Totals, Word, Words, Wrong};
 use explain_calls::{count_of, text_at};
 
@@ -73,13 +74,36 @@ pub fn is_totals(line: &[u8]) -> bool {
     are_like(Words::of(line), &NAMES) && wrong_blanks(line).is_none()
 }
 
-// The reply of an entry, where it is an error's name.
-fn error_of(entry: Entry<'_>) -> Option<&[u8]> {
-    let name = text_at(entry.reply, 0);
-    if are(entry.reply, 1) && meaning(name).is_some() {
+// The error's name that a reply is, where it is one.
+fn error_of(reply: Words<'_>) -> Option<&[u8]> {
+    let name = text_at(reply, 0);
+    if are(reply, 1) && meaning(name).is_some() {
         Some(name)
     } else {
         None
+    }
+}
+
+fn count_reply(totals: &mut Totals, reply: Words) {
+    match error_of(reply) {
+        Some(name) if is_not_ready(name) => {
+            totals.not_ready = totals.not_ready.saturating_add(1);
+        }
+        Some(_) => totals.refused = totals.refused.saturating_add(1),
+        None => {}
+    }
+}
+
+// The replies of the callers that are woken.
+fn count_wakes(totals: &mut Totals, wakes: Words) {
+    let mut left = wakes;
+    for _ in wakes {
+        if let Some((wake, further)) = first_wake(left) {
+            count_reply(totals, wake.reply());
+            left = further;
+        } else {
+            break;
+        }
     }
 }
 
@@ -87,13 +111,8 @@ fn count(totals: &mut Totals, entry: Entry) {
     if text_at(entry.call, 0) == b"fork".as_slice() {
         totals.processes = totals.processes.saturating_add(1);
     }
-    match error_of(entry) {
-        Some(name) if is_not_ready(name) => {
-            totals.not_ready = totals.not_ready.saturating_add(1);
-        }
-        Some(_) => totals.refused = totals.refused.saturating_add(1),
-        None => {}
-    }
+    count_reply(totals, entry.reply);
+    count_wakes(totals, entry.wakes);
 }
 
 /// The totals of these lines up to before that number.

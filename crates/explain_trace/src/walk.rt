@@ -2,7 +2,8 @@
 //! of signals: a process that a signal dooms makes fewer calls than its block has. So what is found here is a hint,
 //! which is told only where it agrees with what the program says is due.
 
-use crate::entry::{Entry, are, entry_of};
+use crate::entry::{Entry, are, entry_of, is_parked};
+use crate::wakes::first_wake;
 use explain_base::{Line, Lines, Words};
 use explain_calls::{Call, text_at};
 use std::alloc::{AllocError, Global};
@@ -33,13 +34,39 @@ struct Calls<'a> {
     has_exit: bool,
 }
 
-/// A process in its block: which call is due, how often it was made, and the line of the trace at which it ended.
+/// A process in its block: which call is due, how often it was made, whether it waits in it, and the line of the trace
+/// at which it ended.
 #[derive(Clone, Copy)]
 pub struct Process<'a> {
     pub pid: &'a [u8],
     due: usize,
     made: usize,
+    is_parked: bool,
     pub ended: Option<Line<'a>>,
+}
+
+impl<'a> Process<'a> {
+    // A process that begins with the call at this place.
+    fn at(pid: &'a [u8], due: usize) -> Self {
+        Process {
+            pid,
+            due,
+            made: 0,
+            is_parked: false,
+            ended: None,
+        }
+    }
+
+    // The process in a call that waits.
+    fn waiting(self) -> Self {
+        Process {
+            pid: self.pid,
+            due: self.due,
+            made: self.made,
+            is_parked: true,
+            ended: self.ended,
+        }
+    }
 }
 
 /// The processes behind some lines of a trace.
@@ -126,27 +153,28 @@ impl<'a> Calls<'a> {
 }
 
 // Whether a call that got this reply may be made again, by `try`.
-fn is_to_be_made_again(entry: Entry) -> bool {
-    let first = text_at(entry.reply, 0);
-    let is_waiting = text_at(entry.call, 0) == b"waitpid".as_slice() && are(entry.reply, 1);
+fn is_to_be_made_again(name: &[u8], reply: Words) -> bool {
+    let first = text_at(reply, 0);
+    let is_waiting = name == b"waitpid".as_slice() && are(reply, 1);
     matches!(first, b"ENOMSG" | b"EAGAIN" | b"ENOENT") || (is_waiting && first == b"0".as_slice())
 }
 
-// A process behind an entry of its own: the call is due again, or the next one is.
+// A process behind the reply to a call of this name: the call is due again, or the next one is.
 fn behind<'a>(
     process: &Process<'a>,
     due: Option<Due<'a>>,
-    entry: Entry<'a>,
+    name: &[u8],
+    reply: Words<'a>,
     line: Line<'a>,
 ) -> Process<'a> {
     let made = process.made.saturating_add(1);
     let (due, made) = match due {
-        Some(due) if is_to_be_made_again(entry) && made < due.count => (process.due, made),
+        Some(due) if is_to_be_made_again(name, reply) && made < due.count => (process.due, made),
         Some(_) => (process.due.saturating_add(1), 0),
         None => (process.due, process.made),
     };
     let pid = process.pid;
-    let ended = match text_at(entry.call, 0) {
+    let ended = match name {
         b"exit" | b"killed" => Some(line),
         _ => process.ended,
     };
@@ -154,6 +182,7 @@ fn behind<'a>(
         pid,
         due,
         made,
+        is_parked: false,
         ended,
     }
 }
@@ -169,12 +198,7 @@ impl<'a> Walk<'a> {
         let calls = Calls::of(alloc, script)?;
         let mut processes: Vec<Process<'a>> = Vec::new(alloc);
         let due = calls.begin();
-        processes.push(Process {
-            pid: b"1",
-            due,
-            made: 0,
-            ended: None,
-        })?;
+        processes.push(Process::at(b"1", due))?;
         let mut walk = Walk { calls, processes };
         for line in lines {
             if line.number >= number {
@@ -189,14 +213,9 @@ impl<'a> Walk<'a> {
 
     // Takes an entry of the trace, which stands in this line.
     fn take(&mut self, entry: Entry<'a>, line: Line<'a>) -> Result<(), AllocError> {
-        let mut is_known = false;
-        for process in self.processes.iter_mut() {
-            if process.pid == entry.pid {
-                let due = self.calls.due(process);
-                *process = behind(process, due, entry, line);
-                is_known = true;
-            }
-        }
+        let name = text_at(entry.call, 0);
+        let is_known = self.reply(entry.pid, name, entry.reply, line);
+        self.wake(entry.wakes, line);
         if is_known
             && text_at(entry.call, 0) == b"fork".as_slice()
             && are(entry.call, 2)
@@ -207,16 +226,40 @@ impl<'a> Walk<'a> {
         Ok(())
     }
 
+    // A process has this reply to its call, or waits in it. Gives whether there is such a process.
+    fn reply(&mut self, pid: &[u8], name: &[u8], reply: Words<'a>, line: Line<'a>) -> bool {
+        for process in self.processes.iter_mut() {
+            if process.pid == pid {
+                let due = self.calls.due(process);
+                *process = if is_parked(reply) {
+                    process.waiting()
+                } else {
+                    behind(process, due, name, reply, line)
+                };
+                return true;
+            }
+        }
+        false
+    }
+
+    // The callers that an entry wakes have their replies.
+    fn wake(&mut self, wakes: Words<'a>, line: Line<'a>) {
+        let mut left = wakes;
+        for _ in wakes {
+            if let Some((wake, further)) = first_wake(left) {
+                let _ = self.reply(wake.pid(), b"", wake.reply(), line);
+                left = further;
+            } else {
+                break;
+            }
+        }
+    }
+
     // A process of this number begins with the block of this name.
     fn fork(&mut self, pid: &'a [u8], name: &'a [u8]) -> Result<(), AllocError> {
         if self.process(pid).is_none() && self.processes.len() < MAX_PROCESSES {
             let due = self.calls.begin_of(name);
-            self.processes.push(Process {
-                pid,
-                due,
-                made: 0,
-                ended: None,
-            })?;
+            self.processes.push(Process::at(pid, due))?;
         }
         Ok(())
     }
@@ -237,7 +280,7 @@ impl<'a> Walk<'a> {
         Some(self.calls.due(&process)?.line)
     }
 
-    /// The number of the first of the processes that haven't ended; 1 where all have.
+    /// The number of the first of the processes that neither have ended nor wait; 1 where there is none.
     pub fn first_living(&self) -> &'a [u8] {
         let mut found: Option<&'a [u8]> = None;
         for process in &self.processes {
@@ -245,7 +288,7 @@ impl<'a> Walk<'a> {
                 Some(pid) => is_below(process.pid, pid),
                 None => true,
             };
-            if process.ended.is_none() && is_first {
+            if process.ended.is_none() && !process.is_parked && is_first {
                 found = Some(process.pid);
             }
         }

@@ -9,7 +9,7 @@ use explain_base::{Fault, Finding, Page, Piece, Span, Text, Totals, Words, Wrong
 use explain_calls::plain_wrong;
 use std::alloc::Global;
 
-const MAX_LINE: usize = 65536;
+const MAX_LINE: usize = 1048576;
 
 const MAX_TRACE: usize = 67108864;
 
@@ -81,7 +81,7 @@ fn too_long<'a>(judged: Judged<'a>, size: usize) -> Option<Text<'a>> {
         Some(Text::three(
             Piece::plain("the line has "),
             Piece::grouped(size),
-            Piece::plain(" bytes, and 65,536 is the limit"),
+            Piece::plain(" bytes, and 1,048,576 is the limit"),
         ))
     } else if size_up_to(judged, size) >= MAX_TRACE {
         Some(Text::plain("the trace has more than 67,108,864 bytes"))

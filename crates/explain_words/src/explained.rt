@@ -17,7 +17,7 @@ pub struct Told<'a> {
     pub expected: Text<'a>,
 }
 
-const MODES_TEXT: &str = "a mode: run, sim, check or gen";
+const MODES_TEXT: &str = "a mode: run, sim, check, gen or boxes";
 
 impl<'a> Told<'a> {
     pub fn new(place: usize, what: Text<'a>, expected: Text<'a>) -> Self {

@@ -1,7 +1,7 @@
 //! The modes, and the words that the usage line names.
 
 /// The names of the modes.
-pub static MODES: [&str; 4] = ["run", "sim", "check", "gen"];
+pub static MODES: [&str; 5] = ["run", "sim", "check", "gen", "boxes"];
 
 /// All options.
 pub static OPTIONS: [&str; 6] = ["--seed", "--steps", "--help", "-h", "--version", "--prove"];
@@ -20,7 +20,7 @@ pub struct Mode {
     pub form: &'static str,
 }
 
-static ALL: [Mode; 4] = [
+static ALL: [Mode; 5] = [
     Mode {
         name: "run",
         asked: "./pico run ",
@@ -60,6 +60,16 @@ static ALL: [Mode; 4] = [
         has_steps: true,
         unlike: "",
         form: "",
+    },
+    Mode {
+        name: "boxes",
+        asked: "./pico boxes ",
+        alone: "one mode: boxes",
+        reads: true,
+        has_seed: false,
+        has_steps: false,
+        unlike: "`boxes` has no options",
+        form: "./pico boxes [FILE]",
     },
 ];
 

@@ -10,9 +10,9 @@ use thiserror::Error;
 pub enum CallFault {
     #[error("out of memory")]
     Memory,
-    /// The kernel has no transition here: the caller doesn't live, or has nothing more to do; or the
-    /// ending doesn't fit its doom; or the number for something new is 0 or used; or the call may have
-    /// to wait.
+    /// The kernel has no transition here: the caller doesn't live, waits, or has nothing more to do; or
+    /// the ending doesn't fit its doom; or the number for something new is 0 or used; or the caller
+    /// withdraws from where it doesn't wait, or wasn't struck.
     #[error("not allowed here")]
     NotAllowed,
 }

@@ -185,7 +185,8 @@ impl Logged {
     /// behind so many; and where there are fewer than `most`, before the next one, too, which [`Logged::turn`] makes.
     #[inline(always)]
     pub fn wait<G: Gate>(&mut self, gate: &G, turns: u64, most: u64) -> u64
-        ensures { (script : Script) → IsOfScript script self.old → AreIdleTurns script result self.old self.new }
+        ensures turns { (script : Script) → IsOfScript script self.old → AreIdleTurns script result self.old self.new }
+        ensures most { result ≤ most }
     {
         if most > u64::MAX - self.silent {
             gate.pass(self.works.number, turns.saturating_add(1));

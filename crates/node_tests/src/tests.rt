@@ -51,7 +51,7 @@ use std::alloc::Global;
 use std::mem::ManuallyDrop;
 use std::process::Abort;
 use std::test::Fail;
-use wires::{C, Q, Who, checkpoint_of, frame_of, node_of};
+use wires::{C, Q, Who, Wire, checkpoint_of, frame_of, node_of};
 
 /// A node that is never taken apart, so that its owners are cheaper to prove.
 type Kept = ManuallyDrop<PicoNode>;
@@ -130,6 +130,21 @@ fn takes(node: &mut PicoNode, script: &Script, from: Who, frame: Frame) -> Resul
     }
 }
 
+/// Whether the node takes this frame, which is made for it alone: to own one beside another step is dear.
+fn takes_wire(
+    alloc: Global,
+    script: &Script,
+    node: &mut PicoNode,
+    from: Who,
+    wire: Wire,
+    started: u32,
+) -> Result<bool, Fail>
+    requires sound { IsSoundScript script.now }
+{
+    let frame = frame_of(alloc, wire, started)?;
+    takes(node, script, from, frame)
+}
+
 /// Whether one of the texts has the word.
 fn has(texts: &[&str], wanted: &str) -> bool {
     for text in texts {
@@ -159,8 +174,7 @@ fn refuses(
     for (from, taken) in SENDERS.iter().zip(moment.takes.iter()) {
         for (name, wire) in table {
             if !has(taken, name) {
-                let frame = frame_of(alloc, *wire, moment.started)?;
-                let took = takes(node, script, *from, frame)?;
+                let took = takes_wire(alloc, script, node, *from, *wire, moment.started)?;
                 assert!(rt; !took, "{name} from {from:?}");
             }
         }
@@ -176,13 +190,14 @@ fn takes_after(
     life: &[Moment],
     count: usize,
     from: Who,
-    frame: Frame,
+    wire: Wire,
+    started: u32,
 ) -> Result<bool, Fail>
     requires sound { IsSoundScript script.now }
     requires block { number ≤ length script.now.blocks }
 {
     let mut node = node_at(alloc, script, number, life, count)?;
-    takes(&mut *node, script, from, frame)
+    takes_wire(alloc, script, &mut *node, from, wire, started)
 }
 
 /// The node, after so many moments of its life, takes each frame of the table that the next moment names.
@@ -202,8 +217,8 @@ fn takes_named(
     for (from, taken) in SENDERS.iter().zip(moment.takes.iter()) {
         for (name, wire) in table {
             if has(taken, name) {
-                let frame = frame_of(alloc, *wire, moment.started)?;
-                let took = takes_after(alloc, script, number, life, count, *from, frame)?;
+                let started = moment.started;
+                let took = takes_after(alloc, script, number, life, count, *from, *wire, started)?;
                 assert!(rt; took, "{name} from {from:?} after {count}");
             }
         }
@@ -239,9 +254,9 @@ fn go_on_alike(
 ) -> Result<(), Fail>
     requires sound { IsSoundScript script.now }
 {
-    let turn = goes_on(alloc, script, &mut *nodes.calm, moment)?;
-    let again = goes_on(alloc, script, &mut *nodes.vexed, moment)?;
-    assert!(rt; turn == again, "after {at}");
+    let turn = ManuallyDrop::new(goes_on(alloc, script, &mut *nodes.calm, moment)?);
+    let again = ManuallyDrop::new(goes_on(alloc, script, &mut *nodes.vexed, moment)?);
+    assert!(rt; *turn == *again, "after {at}");
     Ok(())
 }
 
@@ -313,21 +328,17 @@ fn the_leader_takes_what_has_a_rule(rt: HostRuntime) -> Result<(), Fail> {
     goes_through(&rt, rt.alloc(), Node(1), &LEADER_LIFE, &tables)
 }
 
-/// A birth of node 2 by these variables.
-fn birth_by(alloc: Global, vars: &[Var]) -> Result<Frame, Fail> {
-    Ok(checkpoint_of(alloc, 2, &(P2, NEW), vars)?)
-}
-
-/// Whether the node refuses a birth by these variables, and is born by others afterwards.
-fn waits_for_a_birth(
+/// Whether the node is born by these variables.
+fn is_born_by(
+    alloc: Global,
     node: &mut PicoNode,
     script: &Script,
-    refused: Frame,
-    good: Frame,
+    vars: &[Var],
 ) -> Result<bool, Fail>
     requires sound { IsSoundScript script.now }
 {
-    Ok(!takes(node, script, Who::Leader, refused)? && takes(node, script, Who::Leader, good)?)
+    let frame = checkpoint_of(alloc, 2, &(P2, NEW), vars)?;
+    takes(node, script, Who::Leader, frame)
 }
 
 /// Whether node 2 as it opens refuses a birth by these variables, and is born by others afterwards.
@@ -335,10 +346,11 @@ fn refuses_birth(alloc: Global, script: &Script, vars: &[Var]) -> Result<bool, F
     requires sound { IsSoundScript script.now }
     requires block { 2 ≤ length script.now.blocks }
 {
-    let refused = birth_by(alloc, vars)?;
-    let good = birth_by(alloc, &[C, Q])?;
     let mut node = opening(alloc, script, Node(2))?;
-    waits_for_a_birth(&mut *node, script, refused, good)
+    Ok(
+        !is_born_by(alloc, &mut *node, script, vars)?
+            && is_born_by(alloc, &mut *node, script, &[C, Q])?,
+    )
 }
 
 /// A birth that no node sends, by variables that don't rise, is refused, and the node waits for the next one.

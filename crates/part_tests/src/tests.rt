@@ -1,11 +1,6 @@
-//! The bytes of each part, and bytes that are none's; and what parts answer at their edges.
-mod copies;
+//! The bytes of each part, and bytes that are none's; and places that are used again.
 mod families;
-mod keys;
-mod leases;
-mod lines;
 mod links;
 mod queues;
 mod sets;
 mod signals;
-mod watches;

@@ -40,7 +40,7 @@ pub record Laws : Type 0 where
   pub short : RunsAreShort
 
 -- the events that are handed back are a run
-run_of : (script : Script) (r : Rested) (k : IsRested script r) → IsRunOf script (events_in r) k.world
+pub run_of : (script : Script) (r : Rested) (k : IsRested script r) → IsRunOf script (events_in r) k.world
 run_of script r k =
     subst (λ (es : List Event). IsRunOf script es k.world)
     (sym (ap (λ es. map (λ e. e.item) es) k.events ∙ items_are_events k.turns)) k.run.runs

@@ -5,5 +5,7 @@ pub mod Ends
 pub mod Goings
 pub mod Promises
 pub mod Runs
+pub mod Sandboxes
 pub mod ToldSoFar
 pub mod Verdicts
+pub mod WorldTexts

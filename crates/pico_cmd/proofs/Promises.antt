@@ -12,7 +12,7 @@ use Rattle.pico_cmd.specs.declared.status.Status.{Status}
 use Rattle.pico_cmd.specs.declared.status.Status.TheVariants as status
 use Rattle.pico_words.specs.declared.words.Options.{Options}
 use Rattle.pico_words.specs.declared.words.Request.{Request}
-use Rattle.pico_words.specs.declared.words.Request.TheVariants.{Run, Simulate, Check, Generate}
+use Rattle.pico_words.specs.declared.words.Request.TheVariants.{Run, Simulate, Check, Generate, Boxes}
 use Rattle.pico_cmd.specs.declared.program.Stop.{Stop}
 use Rattle.pico_cmd.specs.declared.program.Stop.TheVariants.{Memory, ReadFault}
 use Rattle.pico_cmd.specs.Stop.{AreBytesUpTo, IsReadFault, left_behind, most_read}
@@ -150,6 +150,7 @@ none_cut (Some (Run steps)) left text rested a = a.answers
 none_cut (Some (Simulate o)) left text rested a = a.answers.0
 none_cut (Some Check) left text rested a = a.answers.0.judges
 none_cut (Some (Generate o)) left text rested a = a.answers
+none_cut (Some Boxes) left text rested a = a.answers
 
 -- no text goes with want of memory, nor with a read that failed
 pub none_memory : (asked : Option Request) (left : Option (List ℕ)) (text : List ℕ) (rested : List Rested)
@@ -159,6 +160,7 @@ none_memory (Some (Run steps)) left text rested a = a.answers
 none_memory (Some (Simulate o)) left text rested a = a.answers.0
 none_memory (Some Check) left text rested a = a.answers.0.judges
 none_memory (Some (Generate o)) left text rested a = a.answers
+none_memory (Some Boxes) left text rested a = a.answers
 
 -- nor with a read that failed
 pub none_read_fault : (asked : Option Request) (left : Option (List ℕ)) (text : List ℕ) (rested : List Rested)
@@ -168,6 +170,7 @@ none_read_fault (Some (Run steps)) left text rested a = a.answers
 none_read_fault (Some (Simulate o)) left text rested a = a.answers.0
 none_read_fault (Some Check) left text rested a = a.answers.0.judges
 none_read_fault (Some (Generate o)) left text rested a = a.answers
+none_read_fault (Some Boxes) left text rested a = a.answers
 
 -- a status with which no text goes isn't told of an answer
 pub not_told : (asked : Option Request) (left : Option (List ℕ)) (s : Status) (text : List ℕ) (rested : List Rested)

@@ -14,19 +14,30 @@ use Rattle.check_input.specs.Parts.{checked_script, trace_of, first_line_of}
 use Rattle.trace_text.specs.declared.fault.CheckFault.{CheckFault}
 use Rattle.trace_check.specs.FirstFault.{CountsLegal, IsLegalTrace, verdict_of}
 use Rattle.trace_check.specs.Refusal.{IsRefusal, refusal_text}
+use Rattle.sandbox_set.specs.declared.fault.BoxFault.{BoxFault}
+use Rattle.sandbox_set.specs.declared.read.Sandbox.{Sandbox}
+use Rattle.sandbox_set.specs.Boxes as boxes
 use Rattle.pico_words.specs.declared.words.Options.{Options}
 use Rattle.pico_words.specs.declared.words.Request.{Request}
-use Rattle.pico_words.specs.declared.words.Request.TheVariants.{Run, Simulate, Check, Generate}
+use Rattle.pico_words.specs.declared.words.Request.TheVariants.{Run, Simulate, Check, Generate, Boxes}
 use Rattle.pico_run.specs.declared.rested.Rested.{Rested}
 use Rattle.pico_cmd.specs.Run.{IsTextOfRun}
 use Rattle.pico_cmd.specs.Threads.{IsTextOfThreads, IsTotalsOfThreads}
+use Rattle.pico_cmd.specs.Boxed.{IsTextOfBoxes}
 use Rattle.pico_cmd.specs.Stop.{most_read}
 
 unfoldable pub usage_text : List ℕ
-usage_text = codes "usage: pico run|sim|check|gen [--seed N] [--steps]\n"
+usage_text = codes "usage: pico run|sim|check|gen|boxes [--seed N] [--steps]\n"
+
+-- a line, and the name of the fault that is there
+abbrev pub named_fault_text : ℕ → List ℕ → List ℕ
+named_fault_text line name = codes "fault: line " ++ decimal line ++ codes ": " ++ name ++ 10 ∷ []
 
 abbrev pub fault_text : ℕ → ScriptFault → List ℕ
-fault_text line fault = codes "fault: line " ++ decimal line ++ codes ": " ++ name_of fault ++ 10 ∷ []
+fault_text line fault = named_fault_text line (name_of fault)
+
+abbrev pub box_fault_text : ℕ → BoxFault → List ℕ
+box_fault_text line fault = named_fault_text line (boxes.name_of fault)
 
 unfoldable pub legal_text : ℕ → List ℕ
 legal_text entries = codes "legal entries " ++ decimal entries ++ 10 ∷ []
@@ -105,10 +116,32 @@ abbrev pub Judges : List ℕ → Status → List ℕ → Type 0
 Judges bytes status.BadScript text = IsCheckFaultOf bytes text
 Judges bytes s text = JudgesBytes bytes s text
 
+-- ---- `boxes`
+
+-- The bytes are sandboxes, and the text is that of their runs with threads, whose outcomes are handed back. What is
+-- said of each sandbox is said of its script alone, whatever the others are.
+pub record AreTracesOfBoxes (bytes text : List ℕ) (rested : List Rested) : Type 0 where
+  pub sandboxes : List Sandbox
+  pub reads : boxes.Reads bytes sandboxes
+  pub run : IsTextOfBoxes sandboxes text rested
+
+-- the text names the first fault of the bytes
+pub record IsBoxFaultOf (bytes text : List ℕ) : Type 0 where
+  pub line : ℕ
+  pub fault : BoxFault
+  pub first : boxes.IsFirstFault bytes line fault
+  pub is_text : text ≡ box_fault_text line fault
+
+-- what goes with a status for these bytes
+abbrev pub RunsBoxes : List ℕ → Status → List ℕ → List Rested → Type 0
+RunsBoxes bytes status.Done text rested = AreTracesOfBoxes bytes text rested
+RunsBoxes bytes status.BadScript text rested = IsBoxFaultOf bytes text × (rested ≡ [])
+RunsBoxes bytes _ text rested = ⊥
+
 -- ---- each mode
 
--- What goes with a status for what is asked for and the bytes that the source had, with the outcome of the run with
--- threads that is handed back: of `run` and `gen` alone. `check` rests on as many bytes as it reads.
+-- What goes with a status for what is asked for and the bytes that the source had, with the outcomes of the runs with
+-- threads that are handed back: of `run`, `gen` and `boxes` alone. `check` rests on as many bytes as it reads.
 abbrev pub Answers : Request → List ℕ → Status → List ℕ → List Rested → Type 0
 Answers (Run steps) bytes s text rested = RunsThreads steps bytes s text rested
 Answers (Simulate options) bytes s text rested = Simulates options bytes s text × (rested ≡ [])
@@ -116,6 +149,7 @@ Answers Check bytes s text rested = Judges (take (most_read Check) bytes) s text
 Answers (Generate options) bytes status.Done text rested =
     IsTotalsOfThreads (generated options.seed) options.steps text rested
 Answers (Generate options) bytes _ text rested = ⊥
+Answers Boxes bytes s text rested = RunsBoxes bytes s text rested
 
 -- the same for bytes that are those that the source had left where it tells them
 pub record AnswersTold (request : Request) (left : Option (List ℕ)) (s : Status) (text : List ℕ)
@@ -166,12 +200,19 @@ abbrev pub CauseOfGen : Status → Type 0
 CauseOfGen status.Done = Unit {0}
 CauseOfGen _ = ⊥
 
+-- what makes `boxes` end so
+abbrev pub CauseOfBoxes : List ℕ → Status → Type 0
+CauseOfBoxes bytes status.Done = (sandboxes : List Sandbox) × boxes.Reads bytes sandboxes
+CauseOfBoxes bytes status.BadScript = (line : ℕ) × (fault : BoxFault) × boxes.IsFirstFault bytes line fault
+CauseOfBoxes bytes _ = ⊥
+
 -- what makes the answer have a status, but for want of memory and for reads and writes that fail
 abbrev pub Cause : Request → List ℕ → Status → Type 0
 Cause (Run steps) bytes s = CauseOfSim bytes s
 Cause (Simulate options) bytes s = CauseOfSim bytes s
 Cause Check bytes s = CauseOfCheck (take (most_read Check) bytes) s
 Cause (Generate options) bytes s = CauseOfGen s
+Cause Boxes bytes s = CauseOfBoxes bytes s
 
 -- each cause of a status for what the words ask for and the bytes that the source tells, and what follows from it
 abbrev pub EachCause : Option Request → Option (List ℕ) → (Status → Type 0) → Type 0

@@ -8,20 +8,17 @@ ghost use Rattle.script_reader.specs.declared.fault.ScriptFault.{ScriptFault as 
 ghost use Rattle.script_reader.specs.Fault.{Reads, IsFirstFault};
 ghost use Rattle.pico_cmd.specs.Run.{IsTextOfRun, steps_if};
 ghost use Rattle.pico_cmd.specs.Telling.{Tells, lines_if};
-ghost use Rattle.pico_cmd.specs.Promise.{Simulates, fault_text};
+ghost use Rattle.pico_cmd.specs.Promise.{Simulates, fault_text, named_fault_text};
 
 use crate::run::{Run, run_script};
 use crate::status::Status;
 use crate::telling::Telling;
-use pico_base::{Bytes, Event, Memory, Script, Sequence};
-use pico_run::Rested;
+use boxes_run::RestedList;
+use pico_base::{Bytes, Event, Memory, Script};
 use pico_words::Options;
 use script_reader::{ScriptFault, ScriptStop, read_script};
 use std::alloc::Global;
 use trace_text::{push, push_byte, push_number, write_steps};
-
-/// The outcomes of runs with threads that stand behind what was written.
-pub type RestedList = Sequence<Rested>;
 
 /// A status, the text that is written with it, and the outcomes of runs with threads that are handed back with it.
 #[derive(Drop)]
@@ -31,17 +28,24 @@ pub struct Answer {
     pub rested: RestedList,
 }
 
-// The line that names a script's fault.
-pub fn text_of_fault(alloc: Global, line: u32, fault: ScriptFault) -> Result<Bytes, Memory>
-    ensures { IfOk result (λ text. text ≡ fault_text line fault) }
+// The line that names a fault.
+pub fn text_of_named_fault(alloc: Global, line: u32, name: &str) -> Result<Bytes, Memory>
+    ensures { IfOk result (λ text. text ≡ named_fault_text line name.now) }
 {
     let mut out = Vec::new(alloc);
     push(&mut out, b"fault: line ")?;
     push_number(&mut out, u64::from(line))?;
     push(&mut out, b": ")?;
-    push(&mut out, fault.name().as_bytes())?;
+    push(&mut out, name.as_bytes())?;
     push_byte(&mut out, b'\n')?;
     Ok(Bytes::from_vec(out))
+}
+
+// The line that names a script's fault.
+pub fn text_of_fault(alloc: Global, line: u32, fault: ScriptFault) -> Result<Bytes, Memory>
+    ensures { IfOk result (λ text. text ≡ fault_text line fault) }
+{
+    text_of_named_fault(alloc, line, fault.name())
 }
 
 // A text, and the events behind it where they are wanted.

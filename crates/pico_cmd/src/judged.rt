@@ -8,8 +8,9 @@ ghost use Rattle.trace_text.specs.declared.fault.CheckFault.{CheckFault as Fault
 ghost use Rattle.pico_cmd.specs.Promise.{Judges, JudgesTrace, CauseOfCheck, legal_text};
 ghost use Rattle.pico_cmd.specs.declared.status.Status.{Status as StatusValue};
 
-use crate::answer::{Answer, RestedList, text_of_fault};
+use crate::answer::{Answer, text_of_fault};
 use crate::status::Status;
+use boxes_run::RestedList;
 use check_input::{Parts, read_checked};
 use pico_base::{Bytes, Memory, Script};
 use script_reader::ScriptStop;

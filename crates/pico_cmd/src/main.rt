@@ -3,6 +3,7 @@
 #![tactic(auto)]
 
 mod answer;
+mod boxed;
 mod judged;
 mod laws;
 mod program;
@@ -12,7 +13,7 @@ mod status;
 mod telling;
 mod threaded;
 
-pub use answer::RestedList;
+pub use boxes_run::RestedList;
 use host_iface::{OpenGate, StdSink, StdSource};
 pub use program::{Ran, pico};
 pub use status::Status;

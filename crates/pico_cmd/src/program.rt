@@ -7,10 +7,12 @@ ghost use Rattle.pico_cmd.specs.Promise.{Allows, AnswersTold, EachCause, Wrote, 
 ghost use Rattle.pico_cmd.specs.declared.program.Stop.TheVariants.{Memory as OutOfMemory};
 ghost use Rattle.pico_cmd.specs.Stop.{IsReadFault, IsStop, AreBytesUpTo, Reads, left_behind, most_read};
 
-use crate::answer::{Answer, RestedList, answer_to};
+use crate::answer::{Answer, answer_to};
+use crate::boxed::answer_to_boxes;
 use crate::judged::answer_to_check;
 use crate::status::Status;
 use crate::threaded::{answer_to_number, answer_to_run};
+use boxes_run::RestedList;
 use host_iface::{Gate, ReadStop, Sink, Source, read_all, write_all};
 use pico_base::{Bytes, Memory};
 use pico_words::{Options, Request, request_of};
@@ -18,15 +20,15 @@ use std::alloc::Global;
 use std::sync::Wait;
 use std::thread::Threads;
 
-// The greatest script, in bytes.
+// The greatest script, and the greatest input of sandboxes, in bytes.
 const MAX_SCRIPT: usize = 1048576;
 
 // The greatest script, the longest line `trace` with its line feed, and the greatest trace.
 const MAX_CHECKED: usize = 68161537;
 
-/// What a run of the program leaves: how it ended, and the outcome of the run with threads that stands behind what was
-/// written. There is one with `run` and `gen` where the status is Done, or a WriteFault in its place; else there is
-/// none.
+/// What a run of the program leaves: how it ended, and the outcomes of the runs with threads that stand behind what was
+/// written. There is one with `run` and `gen`, and one for each sandbox with `boxes`, where the status is Done, or a
+/// WriteFault in its place; else there is none.
 #[derive(Drop)]
 pub struct Ran {
     pub status: Status,
@@ -56,7 +58,7 @@ fn usage(alloc: Global) -> Result<Answer, Memory>
         status: Status::Usage,
         text: Bytes::from_slice(
             alloc,
-            b"usage: pico run|sim|check|gen [--seed N] [--steps]\n",
+            b"usage: pico run|sim|check|gen|boxes [--seed N] [--steps]\n",
         )?,
         rested: RestedList::new(alloc),
     })
@@ -127,6 +129,25 @@ fn check<S: Source>(alloc: Global, source: &mut S) -> Result<Answer, Stop>
     Ok(answer_to_check(alloc, bytes.as_slice())?)
 }
 
+// The answer to several sandboxes.
+fn run_sandboxes<R: Threads + Wait + Sync, S: Source, G: Gate>(
+    rt: &R,
+    alloc: Global,
+    source: &mut S,
+    gate: &G,
+) -> Result<Answer, Stop>
+    ensures answer { IfOk result
+        (λ answer. AnswersTold Request.Boxes (S.left source.old) answer.status answer.text answer.rested) }
+    ensures causes { EachCause (Some Request.Boxes) (S.left source.old)
+        (λ s. IfOk result (λ answer. answer.status ≡ s)) }
+    ensures rest { OnOk result (S.left source.new ≡ left_behind 1048577 (S.left source.old)) }
+    ensures calm { OnOk result (S.faults source.new ≡ S.faults source.old) }
+    ensures stop { IfErr result (IsStop (S.faults source.old) (S.faults source.new)) }
+{
+    let bytes = bytes_up_to(alloc, source, MAX_SCRIPT)?;
+    Ok(answer_to_boxes(rt, alloc, bytes.as_slice(), gate)?)
+}
+
 // The answer to a generated script's number.
 fn totals<R: Threads + Wait + Sync, G: Gate>(
     rt: &R,
@@ -166,6 +187,7 @@ fn answer_for<R: Threads + Wait + Sync, S: Source, G: Gate>(
         Request::Simulate(options) => simulate(alloc, options, source),
         Request::Check => check(alloc, source),
         Request::Generate(options) => Ok(totals(rt, alloc, options, gate)?),
+        Request::Boxes => run_sandboxes(rt, alloc, source, gate),
     }
 }
 
@@ -261,9 +283,11 @@ fn write_answer<K: Sink>(sink: &mut K, answer: Answer) -> Ran
 ///   number of its entries, or what its first fault is.
 /// - `gen`, with the same options as `sim`: the generated script of number N runs with threads, as in `run`. The totals
 ///   line of its trace is written, and with `--steps` the events behind it. Nothing is read.
+/// - `boxes`: the source is up to 8 sandboxes, each a script of its own. All run at once with threads, as in `run`, and
+///   the gate counts their nodes in order. For each its name and its trace are written.
 ///
-/// What `run` and `gen` come to is handed back, too: the journal, the events, the world at rest, and what each thread
-/// left.
+/// What `run`, `gen` and `boxes` come to is handed back, too: the journal, the events, the world at rest, and what each
+/// thread left.
 pub fn pico<R: Threads + Wait + Sync, S: Source, K: Sink, G: Gate>(
     rt: &R,
     alloc: Global,
@@ -273,8 +297,9 @@ pub fn pico<R: Threads + Wait + Sync, S: Source, K: Sink, G: Gate>(
     gate: &G,
 ) -> Ran
     // What is written with each status: the trace of a run of the script's processes, which is one history of a single
-    // POSIX kernel, or that a trace is legal, or the totals of a generated script's run; the script's first fault; the
-    // trace's first fault; or the usage line. Nothing is written where memory or the source failed.
+    // POSIX kernel, or that a trace is legal, or the totals of a generated script's run, or such a trace for each of
+    // several sandboxes; the first fault of the script or of the sandboxes; the trace's first fault; or the usage line.
+    // Nothing is written where memory or the source failed.
     ensures done { result.status ≡ Status.Done →
         Wrote (request_in (map string_bytes words.now)) (S.left source.old) Status.Done
         result.rested (K.taken sink.old) (K.taken sink.new) }
@@ -318,7 +343,7 @@ pub fn pico<R: Threads + Wait + Sync, S: Source, K: Sink, G: Gate>(
         (IsOrStops result.status) }
 
     // Where no count of faults rises, the answer is the one that there is a cause for, unless memory runs out: a script
-    // without a fault is run, a legal trace is legal, and a generated script is run.
+    // without a fault is run, a legal trace is legal, a generated script is run, and so are sandboxes without a fault.
     ensures complete { (Reads (request_in (map string_bytes words.now))
         → HasRisen (S.faults source.old) (S.faults source.new) → ⊥)
         → (HasRisen (K.faults sink.old) (K.faults sink.new) → ⊥)

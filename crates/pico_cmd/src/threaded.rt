@@ -12,10 +12,11 @@ ghost use Rattle.pico_cmd.specs.Threads.{IsTotalsOfThreads, events_in};
 ghost use Rattle.pico_cmd.specs.Rested.{AnswersWith};
 ghost use Rattle.pico_cmd.specs.Promise.{RunsThreads};
 
-use crate::answer::{Answer, RestedList, text_of_fault, with_steps};
+use crate::answer::{Answer, text_of_fault, with_steps};
 use crate::laws::laws;
 use crate::status::Status;
 use crate::telling::Telling;
+use boxes_run::RestedList;
 use host_iface::Gate;
 use pico_base::{Bytes, Event, Memory, Script};
 use pico_run::{Rested, run};

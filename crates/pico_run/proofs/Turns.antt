@@ -62,6 +62,15 @@ turning-idly script lock (suc count) old new keep can idle =
     (turning-idly script lock count old idle.mid keep can idle.before) idle.idle.turned idle.idle.of_script
     idle.idle.lines idle.idle.seat idle.idle.number
 
+-- a turn behind turns that found nothing
+pub turning-behind : (script : Script) (lock : Lock) (count : ℕ) (old now new : LoggedNode) (answer : TurnAnswer)
+    → TurnsKeepLogs → CanTurn script lock old → AreIdleTurns script count old now → Turned script now new answer
+    → IsOfScript script new → AreSameLines now.lines new.lines → IsSameSeat now.seat new.seat → new.number ≡ now.number
+    → IsTurning script lock old new
+turning-behind script lock count old now new answer keep can idle turned of_script lines seat number =
+    turning-more script lock old now new answer keep (turning-idly script lock count old now keep can idle) turned
+    of_script lines seat number
+
 -- some turns behind others
 pub turning-on : (script : Script) (lock : Lock) (old now new : LoggedNode) → IsTurning script lock old now
     → IsTurning script lock now new → IsTurning script lock old new

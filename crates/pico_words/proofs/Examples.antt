@@ -3,7 +3,7 @@ use Rattle.std.proofs.Common.{◌≡◌, true, false, List, [], ◌∷◌, Optio
 use Rattle.std.specs.Prelude.{ℕ, codes}
 use Rattle.clap.proofs.OnLiterals.{clap_on_literals}
 use Rattle.text_fields.specs.Fields.{digit_at, digits_front, number_at}
-use Rattle.pico_words.specs.declared.words.Request.TheVariants.{Run, Simulate, Check, Generate}
+use Rattle.pico_words.specs.declared.words.Request.TheVariants.{Run, Simulate, Check, Generate, Boxes}
 use Rattle.pico_words.specs.Words.{request_in, is_taken, meant, number_of}
 
 -- options stand before the mode and behind it, and `--seed=N` is `--seed N`
@@ -26,6 +26,15 @@ check_with_steps : request_in (codes "check" ∷ codes "--steps" ∷ []) ≡ Non
 unfolding clap_on_literals request_in is_taken meant number_of digit_at digits_front number_at
 check_with_steps = refl
 
+-- nor has `boxes`
+boxes_alone : request_in (codes "boxes" ∷ []) ≡ Some Boxes
+unfolding clap_on_literals request_in is_taken meant number_of digit_at digits_front number_at
+boxes_alone = refl
+
+boxes_with_a_number : request_in (codes "boxes" ∷ codes "--seed=7" ∷ []) ≡ None
+unfolding clap_on_literals request_in is_taken meant number_of digit_at digits_front number_at
+boxes_with_a_number = refl
+
 -- and `run` has `--steps`, and no number
 run_with_steps : request_in (codes "run" ∷ codes "--steps" ∷ []) ≡ Some (Run true)
 unfolding clap_on_literals request_in is_taken meant number_of digit_at digits_front number_at
@@ -44,7 +53,7 @@ leading_zero : request_in (codes "sim" ∷ codes "--seed" ∷ codes "07" ∷ [])
 unfolding clap_on_literals request_in is_taken meant number_of digit_at digits_front number_at
 leading_zero = refl
 
--- a mode must be given, and be one of the four
+-- a mode must be given, and be one of the five
 nothing : request_in [] ≡ None
 unfolding clap_on_literals request_in is_taken meant number_of digit_at digits_front number_at
 nothing = refl

@@ -10,7 +10,7 @@ use Rattle.clap.specs.declared.builder.action.ArgAction.TheVariants.{SetTrue}
 use Rattle.text_fields.specs.Fields.{number_at}
 use Rattle.pico_words.specs.declared.words.Options.{Options}
 use Rattle.pico_words.specs.declared.words.Request.{Request}
-use Rattle.pico_words.specs.declared.words.Request.TheVariants.{Run, Simulate, Check, Generate}
+use Rattle.pico_words.specs.declared.words.Request.TheVariants.{Run, Simulate, Check, Generate, Boxes}
 
 -- ---- the command
 
@@ -59,7 +59,7 @@ options_with steps seed = record { seed = seed; steps = steps }
 abbrev pub options_of : Option (List ℕ) → Bool → Option Options
 options_of seed steps = option_map (options_with steps) (number_of seed)
 
--- each option goes with the mode: `run` has `--steps`, `sim` and `gen` have both, and `check` none
+-- each option goes with the mode: `run` has `--steps`, `sim` and `gen` have both, and `check` and `boxes` none
 unfoldable pub meant : Option (List ℕ) → Bool → List ℕ → Option Request
 meant seed steps mode =
     if bytes_eq mode (codes "run") && not (is_some seed)
@@ -70,7 +70,10 @@ meant seed steps mode =
     else
     if bytes_eq mode (codes "gen")
     then option_map Generate (options_of seed steps)
-    else if bytes_eq mode (codes "check") && not (is_some seed || steps) then Some Check else None
+    else
+    if bytes_eq mode (codes "check") && not (is_some seed || steps)
+    then Some Check
+    else if bytes_eq mode (codes "boxes") && not (is_some seed || steps) then Some Boxes else None
 
 -- ---- what the words give
 

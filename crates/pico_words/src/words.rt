@@ -32,6 +32,8 @@ pub enum Request {
     Check,
     /// `gen`: the totals of a generated script's run.
     Generate(Options),
+    /// `boxes`: the traces of several sandboxes' runs by threads.
+    Boxes,
 }
 
 // N, in its one spelling; 0 without the word.
@@ -70,6 +72,8 @@ fn request_meant(seed: Option<&str>, steps: bool, mode: &str) -> Option<Request>
         Some(Request::Generate(options))
     } else if mode == "check" && !(seed.is_some() || steps) {
         Some(Request::Check)
+    } else if mode == "boxes" && !(seed.is_some() || steps) {
+        Some(Request::Boxes)
     } else {
         None
     }
@@ -137,7 +141,8 @@ fn found(matches: &ArgMatches) -> Option<Request>
 
 /// What the words ask for; none where they aren't in order. They are in order where `clap` takes them as those of the
 /// command `pico MODE [--seed N] [--steps]`, N is a number from 0 to 2147483646 without leading zeros, and each option
-/// goes with the mode: `--steps` with `run`, both with `sim` and `gen`, and none with `check`.
+/// goes with the mode: `--steps` with `run`, both with `sim` and `gen`, and none with `check`
+/// and `boxes`.
 #[tactic(auto, unfolding(crate::specs::Words::request_in))]
 pub fn request_of(alloc: Global, words: &[String]) -> Result<Option<Request>, Memory>
     ensures { IfOk result (λ request. request ≡ spec.request_in (map string_bytes words.now)) }

@@ -121,6 +121,30 @@ impl Gate for BothAtWork {
     }
 }
 
+/// Nodes 1 and 2 are each the first of a sandbox, and go on behind their first events when the other has made its own.
+/// So two sandboxes are at work at once, or a wait gives up.
+#[derive(Drop)]
+pub struct BothSandboxesAtWork {
+    pub words: Words,
+}
+
+impl Gate for BothSandboxesAtWork {
+    fn pass(&self, _node: Node, _turn: u64) {}
+
+    fn did(&self, node: Node, event: u64) {
+        if event != 1 {
+            return;
+        }
+        if node == Node(1) {
+            self.words.first.store(1, Ordering::SeqCst);
+            self.words.wait_for(&self.words.second, 1);
+        } else {
+            self.words.second.store(1, Ordering::SeqCst);
+            self.words.wait_for(&self.words.first, 1);
+        }
+    }
+}
+
 /// Node 1 makes its first turn when node 2 has made 100,000, and so has left: what is left is stepped by the caller.
 #[derive(Drop)]
 pub struct FirstIsLate {

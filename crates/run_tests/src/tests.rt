@@ -1,10 +1,14 @@
 //! Runs under gates.
 ghost use Rattle.std.specs.Prelude.{IsSome};
 
-use crate::gates::{BothAtWork, Counts, FirstIsLate, InOrder, OtherLeaves, Words};
+use crate::gates::{
+    BothAtWork, BothSandboxesAtWork, Counts, FirstIsLate, InOrder, OtherLeaves, Words,
+};
+use boxes_run::run_all;
 use host_iface::Gate;
 use pico_base::{Bytes, Node};
 use pico_run::{Rested, run};
+use sandbox_set::read_boxes;
 use script_reader::read_script;
 use std::alloc::Global;
 use std::sync::Wait;
@@ -129,5 +133,59 @@ fn partings_are_what_the_gate_counts(rt: HostRuntime) -> Result<(), Fail> {
         assert_eq!(rt; left, Some((events as usize, quiet)));
         assert!(rt; quiet >= 100_000);
     }
+    Ok(())
+}
+
+// Two sandboxes of one process each.
+const TWO_SANDBOXES: &str = concat!(
+    "sandbox a\nproc main\nq = msgget private\nmsgrcv $q 0 8 nowait\nend\nendsandbox\n",
+    "sandbox b\nproc main\ngetpid\nend\nendsandbox\n"
+);
+
+// What the thread of a sandbox's first node left.
+fn left_in(rested: &[Rested], place: usize) -> Option<(usize, u64)> {
+    left_by(rested.get(place)?, 0)
+}
+
+// Runs both sandboxes under a gate, and looks at what the threads of both left. It alone owns what the runs leave.
+fn see_sandboxes<R: Threads + Wait + Sync, G: Gate>(
+    rt: &R,
+    alloc: Global,
+    gate: &G,
+) -> Result<[Option<(usize, u64)>; 2], Fail> {
+    let boxes = read_boxes(alloc, TWO_SANDBOXES.as_bytes())?;
+    let rested = run_all(rt, alloc, boxes, gate)?;
+    Ok([left_in(rested.as_slice(), 0), left_in(rested.as_slice(), 1)])
+}
+
+#[test]
+fn two_sandboxes_are_at_work_at_once(rt: HostRuntime) -> Result<(), Fail> {
+    for _ in 0..ROUNDS {
+        let gate = BothSandboxesAtWork {
+            words: Words::new(),
+        };
+        let left = see_sandboxes(&rt, rt.alloc(), &gate)?;
+        assert_eq!(rt; gate.words.read(), (1, 1, 0));
+        assert_eq!(rt; left.map(|one| one.map(|it| it.0)), [Some(3), Some(2)]);
+    }
+    Ok(())
+}
+
+// The first sandbox is held before its first turn until the second one's thread has left.
+#[test]
+fn a_sandbox_comes_to_rest_while_another_is_held(rt: HostRuntime) -> Result<(), Fail> {
+    let gate = OtherLeaves {
+        counts: Counts::new(),
+        words: Words::new(),
+        events: 0,
+    };
+    let left = see_sandboxes(&rt, rt.alloc(), &gate)?;
+    assert_eq!(rt; gate.words.read().2, 0);
+    // the gate counts nodes over both
+    assert_eq!(rt;
+        (gate.counts.of(Node(1)).1, gate.counts.of(Node(2)).1),
+        (3, 2)
+    );
+    assert_eq!(rt; left.map(|one| one.map(|it| it.0)), [Some(3), Some(2)]);
     Ok(())
 }

@@ -2,6 +2,7 @@
 use Rattle.std.specs.Prelude.{ℕ, List, [], ◌∷◌, ◌++◌, codes}
 use Rattle.std.specs.List.{flat_map, zip}
 use Rattle.pico_base.specs.declared.reply.Entry.{Entry}
+use Rattle.pico_base.specs.declared.script.Script.{Script}
 use Rattle.kernel_model.specs.Trace.{trace_text}
 use Rattle.sandbox_set.specs.declared.read.Sandbox.{Sandbox}
 
@@ -9,12 +10,12 @@ use Rattle.sandbox_set.specs.declared.read.Sandbox.{Sandbox}
 abbrev pub heading_line : List ℕ → List ℕ
 heading_line name = codes "sandbox " ++ (name ++ 10 ∷ [])
 
-abbrev pub trace_of : Sandbox → List Entry → List ℕ
-trace_of sandbox journal = trace_text sandbox.script journal
+-- a name, and the trace of a history of the script's processes
+abbrev pub named_trace : List ℕ → Script → List Entry → List ℕ
+named_trace name script journal = heading_line name ++ trace_text script journal
 
--- its name, and the trace of its history
 abbrev pub sandbox_text : Sandbox → List Entry → List ℕ
-sandbox_text sandbox journal = heading_line sandbox.name ++ trace_of sandbox journal
+sandbox_text sandbox journal = named_trace sandbox.name sandbox.script journal
 
 -- the texts of the sandboxes, in order, each with its journal
 unfoldable pub boxes_text : List Sandbox → List (List Entry) → List ℕ

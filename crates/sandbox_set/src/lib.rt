@@ -12,4 +12,4 @@ pub use fault::{BoxFault, BoxStop};
 // The definitions speak of it.
 pub use heading::Heading;
 pub use read::{Boxes, Sandbox, read_boxes};
-pub use text::{Journals, boxes_text};
+pub use text::{Journals, boxes_text, push_named_trace};

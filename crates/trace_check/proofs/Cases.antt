@@ -4,8 +4,8 @@ use Rattle.std.specs.Prelude.{Result, Ok, Err}
 use Rattle.pico_base.specs.declared.reply.Entry.{Entry}
 use Rattle.pico_base.specs.declared.script.Script.{Script}
 use Rattle.number_maps.specs.Maps.{Numbered}
-use Rattle.kernel_model.specs.Kernel.{Kernel, opening}
-use Rattle.kernel_model.specs.Fitting.{Place}
+use Rattle.waiting_model.specs.Kernel.{Kernel, opening}
+use Rattle.waiting_model.specs.Fitting.{Progress}
 use Rattle.kernel_model.specs.Trace.{totals_line}
 use Rattle.trace_text.specs.Reading.{is_line, entry_in}
 use Rattle.trace_text.specs.Read.{next_line, fits}
@@ -13,8 +13,8 @@ use Rattle.trace_text.specs.declared.fault.CheckFault.{CheckFault}
 use Rattle.trace_text.specs.declared.fault.CheckFault.TheVariants.{Memory, NotATrace, Illegal, NotTheScript}
 use Rattle.trace_check.specs.declared.cursor.Cursor.{Cursor}
 use Rattle.trace_check.specs.Cursors.{beginning}
-use Rattle.trace_check.specs.FirstFault.{Progress, GivesFault, judge_entry, judge_totals, first_unended, or_fault, judge_from, verdict_of}
-use Rattle.trace_check.specs.Judging.{progress_of}
+use Rattle.trace_check.specs.FirstFault.{SoFar, GivesFault, judge_entry, judge_totals, first_going, or_fault, judge_from, verdict_of}
+use Rattle.trace_check.specs.Judging.{so_far_of}
 use Rattle.trace_check.proofs.PlaceLaws.{begins}
 
 -- a fault goes through what follows
@@ -33,16 +33,16 @@ goes-next r x next is = ap (λ y. or_fault y next) is
 -- before the first line
 pub judge-starts : (script : Script) (n : ℕ) (bytes : List ℕ) (first : ℕ) (kernel : Kernel) (cursors : Numbered Cursor)
     → n ≡ length bytes → kernel ≡ opening → cursors ≡ (1, beginning 1 []) ∷ []
-    → judge_from script n first 67108864 [] (progress_of script kernel cursors) bytes ≡ verdict_of script bytes first
+    → judge_from script n first 67108864 [] (so_far_of script kernel cursors) bytes ≡ verdict_of script bytes first
 judge-starts script n bytes first kernel cursors count opens begin =
-    ap (λ (m : ℕ). judge_from script m first 67108864 [] (progress_of script kernel cursors) bytes) count
-    ∙ ap (λ (k : Kernel). judge_from script (length bytes) first 67108864 [] (progress_of script k cursors) bytes) opens
-    ∙ ap (λ (cs : Numbered Cursor). judge_from script (length bytes) first 67108864 [] (progress_of script opening cs)
+    ap (λ (m : ℕ). judge_from script m first 67108864 [] (so_far_of script kernel cursors) bytes) count
+    ∙ ap (λ (k : Kernel). judge_from script (length bytes) first 67108864 [] (so_far_of script k cursors) bytes) opens
+    ∙ ap (λ (cs : Numbered Cursor). judge_from script (length bytes) first 67108864 [] (so_far_of script opening cs)
     bytes) begin
-    ∙ ap (λ (p : Place). judge_from script (length bytes) first 67108864 []
+    ∙ ap (λ (p : Progress). judge_from script (length bytes) first 67108864 []
     (record { kernel = opening; places = (1, p) ∷ [] }) bytes) (begins script 1 [])
 
-module _ (script : Script) (line left : ℕ) (done : List Entry) (so_far : Progress) (bytes : List ℕ) where
+module _ (script : Script) (line left : ℕ) (done : List Entry) (so_far : SoFar) (bytes : List ℕ) where
   -- no line is left to be looked at
   pub judge-full : (n : ℕ) → n ≡ 0 → judge_from script n line left done so_far bytes ≡ Err (NotATrace line)
   unfolding judge_from
@@ -67,7 +67,7 @@ module _ (script : Script) (line left : ℕ) (done : List Entry) (so_far : Progr
     -- it is the totals
     pub judge-whole : (n : ℕ) → 0 < n → fits left text ≡ true → is_line (totals_line done) text ≡ true
         → judge_from script n line left done so_far bytes
-        ≡ judge_totals line (length done) so_far after (first_unended so_far.places)
+        ≡ judge_totals line (length done) so_far after (first_going so_far.places)
     unfolding judge_from
     judge-whole zero some f t = absurd (omega (arith, some))
     judge-whole (suc n) some f t = rw (← there, f, t) refl
@@ -99,18 +99,18 @@ module _ (script : Script) (line left : ℕ) (done : List Entry) (so_far : Progr
     judge-fault n e some f t is fault given =
         subst (GivesFault fault) (sym (judge-entry n e some f t is))
         (fault-goes fault (judge_entry script line so_far e)
-        (λ (next : Progress).
+        (λ (next : SoFar).
         judge_from script (n - 1) (line + 1) (left - (length text + 1)) (done ++ e ∷ []) next after)
         given)
 
     -- or with none
     pub judge-next : (n : ℕ) (e : Entry) → 0 < n → fits left text ≡ true → is_line (totals_line done) text ≡ false
-        → entry_in script text ≡ Some e → (next : Progress) → judge_entry script line so_far e ≡ Ok next
+        → entry_in script text ≡ Some e → (next : SoFar) → judge_entry script line so_far e ≡ Ok next
         → judge_from script n line left done so_far bytes
         ≡ judge_from script (n - 1) (line + 1) (left - (length text + 1)) (done ++ e ∷ []) next after
     judge-next n e some f t is next judged =
         judge-entry n e some f t is
         ∙ goes-next (judge_entry script line so_far e) next
-        (λ (next : Progress).
+        (λ (next : SoFar).
         judge_from script (n - 1) (line + 1) (left - (length text + 1)) (done ++ e ∷ []) next after)
         judged

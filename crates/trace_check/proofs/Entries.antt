@@ -1,37 +1,45 @@
 -- An entry is judged to have no fault exactly where it goes on a legal history that fits the script.
-use Rattle.std.proofs.Common.{◌≡◌, inl, inr, ◌∙◌, ℕ, Bool, true, false, cond, ◌&&◌, ◌||◌, Option, Some, None, is_some, refl, sym, ap}
+use Rattle.std.proofs.Common.{◌≡◌, inl, inr, ◌∙◌, ℕ, Bool, true, false, not, cond, ◌&&◌, ◌||◌, Option, Some, None, is_some, refl, sym, ap}
 use Rattle.std.specs.Prelude.{Ok, Err}
-use Rattle.std.specs.Option.{option_and_then}
+use Rattle.std.specs.Option.{option_map_or}
+use Rattle.std.proofs.lemmas.Bool.{and_parts, and_from}
 use Rattle.std.proofs.lemmas.Option.{same_Some}
 use Rattle.pico_base.specs.declared.call.Call.{Call}
 use Rattle.pico_base.specs.declared.call.Call.TheVariants as calls
-use Rattle.pico_base.specs.declared.reply.Reply.{Reply}
+use Rattle.pico_base.specs.declared.numbers.Name.{Name}
 use Rattle.pico_base.specs.declared.reply.Outcome.{Outcome}
 use Rattle.pico_base.specs.declared.reply.Entry.{Entry}
 use Rattle.pico_base.specs.declared.script.Script.{Script}
 use Rattle.pico_base.specs.declared.signal.Sig.{Sig}
-use Rattle.number_maps.specs.Maps.{get, put}
-use Rattle.kernel_model.specs.Effect.{reply_alone}
-use Rattle.kernel_model.specs.Kernel.{Kernel, living_at}
-use Rattle.kernel_model.specs.Transition.{Successor, successor, transition}
+use Rattle.number_maps.specs.Maps.{get}
 use Rattle.kernel_model.specs.History.{number_in}
 use Rattle.kernel_model.specs.Script.{IsSoundScript}
-use Rattle.kernel_model.specs.Fitting.{Place, Places, IsDue, HasReplyAlone, due, is_killed, move_on, places_after, places_after_fork}
-use Rattle.trace_text.specs.Grammar.{is_call, is_entry}
+use Rattle.kernel_model.specs.Fitting.{Place, IsDue, due, is_killed}
+use Rattle.waiting_model.specs.Calls.{withdrawn_from}
+use Rattle.waiting_model.specs.Marks.{is_parked_at}
+use Rattle.waiting_model.specs.Kernel.{Kernel, living_at}
+use Rattle.waiting_model.specs.Transition.{Successor, successor, transition}
+use Rattle.waiting_model.specs.Fitting.{IsNext, Progress, places_after}
+use Rattle.waiting_laws.specs.Parked.{mark_of, mark_in}
+use Rattle.trace_text.specs.Grammar.{is_call, is_entry, is_outcome}
 use Rattle.trace_text.specs.declared.fault.CheckFault.TheVariants.{Illegal, NotTheScript}
-use Rattle.trace_text.proofs.EntryLaws.{IsAlone, is-alone}
-use Rattle.trace_check.specs.FirstFault.{Progress, last_doom, doom_at, due_by, due_at, is_same_call, may_stand, is_same_reply, judge_reply, or_fault, places_with, with_call, judge_own, judge_entry}
-use Rattle.trace_check.proofs.SameTexts.{same-call, call-itself, same-reply, reply-itself}
-use Rattle.trace_check.proofs.Kernels.{replies-alone, makes, spent-ends, doom-ends, last-is}
+use Rattle.trace_text.proofs.EntryLaws.{in-grammar}
+use Rattle.trace_check.specs.FirstFault.{SoFar, last_doom, doom_at, due_by, due_at, is_same_call, may_stand, may_follow, may_come, is_same_outcome, judge_outcome, or_fault, places_with, with_call, judge_entry}
+use Rattle.trace_check.proofs.SameTexts.{same-call, call-itself, same-outcome, outcome-itself}
+use Rattle.trace_check.proofs.Carried.{makes, leaves}
+use Rattle.trace_check.proofs.Kernels.{spent-ends, doom-ends, last-is}
 
--- an entry goes on: the kernel has its outcome, and its call was due
-pub record GoesOn (script : Script) (so_far : Progress) (e : Entry) (next : Progress) : Type 0 where
-  pub step : transition so_far.kernel e.pid e.call (number_in e.outcome.own) ≡ Some (successor next.kernel e.outcome)
-  pub place : Place
-  pub there : get so_far.places e.pid ≡ Some place
-  pub due : IsDue place e.call
-  pub replied : HasReplyAlone e.outcome
-  pub moved : next.places ≡ places_after script so_far.places e place
+-- an entry goes on: the kernel has its outcome, and its call was next
+pub record GoesOn (script : Script) (so_far : SoFar) (e : Entry) (after : SoFar) : Type 0 where
+  pub step : transition so_far.kernel e.pid e.call (number_in e.outcome.own) ≡ Some (successor after.kernel e.outcome)
+  pub progress : Progress
+  pub there : get so_far.places e.pid ≡ Some progress
+  pub next : IsNext progress e.call
+  pub moved : after.places ≡ places_after script so_far.places e progress
+
+is-not : (b : Bool) → not b ≡ true → b ≡ false
+is-not true h = sym h
+is-not false h = refl
 
 module _ (script : Script) (sound : IsSoundScript script) where
   -- what may stand is due
@@ -65,86 +73,75 @@ module _ (script : Script) (sound : IsSoundScript script) where
   place-due place call there (Some sig) (Some d) is h =
       end-due place d call sig there is (is_same_call script (calls.Killed sig) call) refl (is_killed call) refl h
 
+  -- what may follow is next
+  follows-next : (pid : ℕ) (doom : Option Sig) (p : Progress) (call : Call) → is_call script call ≡ true
+      → may_follow script pid doom p call ≡ true → IsNext p call
+  follows-next pid doom p (calls.Withdraw name) there h =
+      (and_parts p.parked (is_parked_at pid name (due p.place)) h).0
+  follows-next pid doom p call there h =
+      let q = and_parts (not p.parked) (may_stand script doom (due_by doom (due p.place)) call) h in
+      (is-not p.parked q.0, place-due p.place call there doom (due p.place) refl q.1)
+
   -- what is judged to have no fault goes on
 
-  goes-with : (so_far next : Progress) (e : Entry) → (a : IsAlone script e) → (o : Option Place)
-      → get so_far.places e.pid ≡ o
-      → may_stand script (doom_at so_far e.pid)
-      (option_and_then (λ place. due_by (doom_at so_far e.pid) (due place)) o) e.call ≡ true
-      → (s : Successor) → transition so_far.kernel e.pid e.call (number_in (Some a.reply)) ≡ Some s
-      → is_same_reply s.outcome.own a.reply ≡ true
-      → record { kernel = s.kernel; places = places_with script so_far.places e.pid e.call a.reply o } ≡ next
-      → GoesOn script so_far e next
-  goes-with so_far next e a None there may s step same is = absurd (cc)
-  goes-with so_far next e a (Some place) there may s step same is =
-      let alone = replies-alone so_far.kernel e.pid e.call (number_in (Some a.reply)) s step in
-      let own : s.outcome.own ≡ Some alone.reply = ap (λ (x : Outcome). x.own) alone.is in
-      let test : is_same_reply (Some alone.reply) a.reply ≡ true =
-      ap (λ (x : Option Reply). is_same_reply x a.reply) (sym own) ∙ same in
-      let reply : alone.reply ≡ a.reply = same-reply alone.reply a.reply a.replies test in
-      let outcome : s.outcome ≡ e.outcome =
-      alone.is ∙ ap reply_alone reply ∙ ap (λ (x : Entry). x.outcome) a.is in
-      let number : number_in (Some a.reply) ≡ number_in e.outcome.own =
-      ap (λ (x : Entry). number_in x.outcome.own) a.is in
-      let kernel : s.kernel ≡ next.kernel = ap (λ (x : Progress). x.kernel) is in
+  goes-with : (so_far after : SoFar) (e : Entry) → is_call script e.call ≡ true → is_outcome e.outcome ≡ true
+      → (o : Option Progress) → get so_far.places e.pid ≡ o
+      → option_map_or (λ p. may_follow script e.pid (doom_at so_far e.pid) p e.call) o false ≡ true
+      → (s : Successor) → transition so_far.kernel e.pid e.call (number_in e.outcome.own) ≡ Some s
+      → is_same_outcome s.outcome e.outcome ≡ true
+      → record { kernel = s.kernel; places = places_with script so_far.places e.pid e.call e.outcome o } ≡ after
+      → GoesOn script so_far e after
+  goes-with so_far after e c g None there may s step same is = absurd (cc)
+  goes-with so_far after e c g (Some p) there may s step same is =
+      let kernel : s.kernel ≡ after.kernel = ap (λ (x : SoFar). x.kernel) is in
       record {
-        step = ap (λ (n : ℕ). transition so_far.kernel e.pid e.call n) (sym number) ∙ step
-            ∙ ap (λ (x : Outcome). Some (successor s.kernel x)) outcome
+        step = step ∙ ap (λ (x : Outcome). Some (successor s.kernel x)) (same-outcome s.outcome e.outcome g same)
             ∙ ap (λ (x : Kernel). Some (successor x e.outcome)) kernel;
-        place = place;
+        progress = p;
         there = there;
-        due = place-due place e.call a.call (doom_at so_far e.pid) (due place) refl may;
-        replied = record { reply = a.reply; alone = sym (ap (λ (x : Entry). x.outcome) a.is) };
-        moved = ap (λ (x : Progress). x.places) (sym is)
-            ∙ ap (λ (x : Entry). places_after_fork script
-            (put so_far.places e.pid (move_on place e.call x.outcome.own)) place e.call x.outcome.own) a.is;
+        next = follows-next e.pid (doom_at so_far e.pid) p e.call c may;
+        moved = ap (λ (x : SoFar). x.places) (sym is);
       }
 
-  replied-with : (so_far next : Progress) (e : Entry) → (a : IsAlone script e) → (line : ℕ)
-      → may_stand script (doom_at so_far e.pid) (due_at so_far e.pid) e.call ≡ true
-      → (s : Successor) → transition so_far.kernel e.pid e.call (number_in (Some a.reply)) ≡ Some s
-      → (same : Bool) → is_same_reply s.outcome.own a.reply ≡ same
-      → or_fault (cond same (Ok s.kernel) (Err (Illegal line s.outcome.own a.reply)))
-      (λ kernel. Ok (with_call script so_far e.pid e.call a.reply kernel)) ≡ Ok next
-      → GoesOn script so_far e next
-  replied-with so_far next e a line may s step false same h = absurd (cc)
-  replied-with so_far next e a line may s step true same h =
-      let is : with_call script so_far e.pid e.call a.reply s.kernel ≡ next = cc in
-      goes-with so_far next e a (get so_far.places e.pid) refl may s step same is
+  replied-with : (so_far after : SoFar) (e : Entry) → is_call script e.call ≡ true → is_outcome e.outcome ≡ true
+      → (line : ℕ) → may_come script so_far e.pid e.call ≡ true
+      → (s : Successor) → transition so_far.kernel e.pid e.call (number_in e.outcome.own) ≡ Some s
+      → (same : Bool) → is_same_outcome s.outcome e.outcome ≡ same
+      → or_fault (cond same (Ok s.kernel) (Err (Illegal line (Some s.outcome) e.outcome)))
+      (λ kernel. Ok (with_call script so_far e.pid e.call e.outcome kernel)) ≡ Ok after
+      → GoesOn script so_far e after
+  replied-with so_far after e c g line may s step false same h = absurd (cc)
+  replied-with so_far after e c g line may s step true same h =
+      let is : with_call script so_far e.pid e.call e.outcome s.kernel ≡ after = cc in
+      goes-with so_far after e c g (get so_far.places e.pid) refl may s step same is
 
-  carried-out : (so_far next : Progress) (e : Entry) → (a : IsAlone script e) → (line : ℕ)
-      → may_stand script (doom_at so_far e.pid) (due_at so_far e.pid) e.call ≡ true
-      → (t : Option Successor) → transition so_far.kernel e.pid e.call (number_in (Some a.reply)) ≡ t
-      → or_fault (judge_reply line a.reply t) (λ kernel. Ok (with_call script so_far e.pid e.call a.reply kernel))
-      ≡ Ok next
-      → GoesOn script so_far e next
-  carried-out so_far next e a line may None step h = absurd (cc)
-  carried-out so_far next e a line may (Some s) step h =
-      replied-with so_far next e a line may s step (is_same_reply s.outcome.own a.reply) refl h
+  carried-out : (so_far after : SoFar) (e : Entry) → is_call script e.call ≡ true → is_outcome e.outcome ≡ true
+      → (line : ℕ) → may_come script so_far e.pid e.call ≡ true
+      → (t : Option Successor) → transition so_far.kernel e.pid e.call (number_in e.outcome.own) ≡ t
+      → or_fault (judge_outcome line e.outcome t)
+      (λ kernel. Ok (with_call script so_far e.pid e.call e.outcome kernel)) ≡ Ok after
+      → GoesOn script so_far e after
+  carried-out so_far after e c g line may None step h = absurd (cc)
+  carried-out so_far after e c g line may (Some s) step h =
+      replied-with so_far after e c g line may s step (is_same_outcome s.outcome e.outcome) refl h
 
-  stands : (so_far next : Progress) (e : Entry) → (a : IsAlone script e) → (line : ℕ)
-      → (may : Bool) → may_stand script (doom_at so_far e.pid) (due_at so_far e.pid) e.call ≡ may
-      → cond may (or_fault (judge_reply line a.reply
-      (transition so_far.kernel e.pid e.call (number_in (Some a.reply))))
-      (λ kernel. Ok (with_call script so_far e.pid e.call a.reply kernel)))
-      (Err (NotTheScript line (due_at so_far e.pid) (Some e.call))) ≡ Ok next
-      → GoesOn script so_far e next
-  stands so_far next e a line false may h = absurd (cc)
-  stands so_far next e a line true may h =
-      carried-out so_far next e a line may (transition so_far.kernel e.pid e.call (number_in (Some a.reply))) refl h
-
-  own-is : (e : Entry) → (a : IsAlone script e) → e.outcome.own ≡ Some a.reply
-  own-is e a = ap (λ (x : Entry). x.outcome.own) (sym a.is)
+  stands : (so_far after : SoFar) (e : Entry) → is_call script e.call ≡ true → is_outcome e.outcome ≡ true
+      → (line : ℕ) → (may : Bool) → may_come script so_far e.pid e.call ≡ may
+      → cond may (or_fault (judge_outcome line e.outcome
+      (transition so_far.kernel e.pid e.call (number_in e.outcome.own)))
+      (λ kernel. Ok (with_call script so_far e.pid e.call e.outcome kernel)))
+      (Err (NotTheScript line (due_at so_far e.pid) (Some e.call))) ≡ Ok after
+      → GoesOn script so_far e after
+  stands so_far after e c g line false may h = absurd (cc)
+  stands so_far after e c g line true may h =
+      carried-out so_far after e c g line may (transition so_far.kernel e.pid e.call (number_in e.outcome.own)) refl h
 
   -- an entry in the grammar that is judged to have no fault goes on
-  pub judged-goes-on : (line : ℕ) (so_far next : Progress) (e : Entry) → is_entry script e ≡ true
-      → judge_entry script line so_far e ≡ Ok next → GoesOn script so_far e next
-  judged-goes-on line so_far next e there h =
-      let a = is-alone script e there in
-      let judged : judge_own script line so_far e (Some a.reply) ≡ Ok next =
-      ap (judge_own script line so_far e) (sym (own-is e a)) ∙ h in
-      stands so_far next e a line
-      (may_stand script (doom_at so_far e.pid) (due_at so_far e.pid) e.call) refl judged
+  pub judged-goes-on : (line : ℕ) (so_far after : SoFar) (e : Entry) → is_entry script e ≡ true
+      → judge_entry script line so_far e ≡ Ok after → GoesOn script so_far e after
+  judged-goes-on line so_far after e there h =
+      let g = in-grammar script e there in
+      stands so_far after e g.call g.outcome line (may_come script so_far e.pid e.call) refl h
 
   -- what is due may stand
 
@@ -179,43 +176,54 @@ module _ (script : Script) (sound : IsSoundScript script) where
       rw itself refl
 
   doom-stands : (place : Place) (call : Call) → is_call script call ≡ true → IsDue place call → (k : Kernel) (pid n : ℕ)
-      → (s : Successor) → transition k pid call n ≡ Some s → (doom : Option Sig)
+      → (s : Successor) → withdrawn_from call ≡ None → transition k pid call n ≡ Some s → (doom : Option Sig)
       → last_doom (living_at k pid) ≡ doom → may_stand script doom (due_by doom (due place)) call ≡ true
-  doom-stands place call there is k pid n s step None doom = free-stands place call there is (due place) refl
-  doom-stands place call there is k pid n s step (Some sig) doom =
-      let m = makes k pid call n s step in
+  doom-stands place call there is k pid n s plain step None doom = free-stands place call there is (due place) refl
+  doom-stands place call there is k pid n s plain step (Some sig) doom =
+      let m = makes k pid call n s plain step in
       let last = last-is m.alive sig (ap last_doom (sym m.lives) ∙ doom) in
       let end = spent-ends m.alive call last.spent m.may in
       let same : sig ≡ end.sig = doom-ends m.alive.row.signals.doom sig end.sig last.doom end.dooms in
       let killed : calls.Killed sig ≡ call = ap (λ (g : Sig). calls.Killed g) same ∙ sym end.is in
       end-stands call sig there killed (due place) (has-call place call is (due place) refl)
 
+  -- a withdrawal that the kernel carries out is from where the process waits
+  leaves-there : (k : Kernel) (pid : ℕ) (name : Name) (n : ℕ) (s : Successor) (p : Progress)
+      → transition k pid (calls.Withdraw name) n ≡ Some s → mark_in k.processes pid ≡ due p.place
+      → is_parked_at pid name (due p.place) ≡ true
+  leaves-there k pid name n s p step waits =
+      let l = leaves k pid name n s step in
+      let mark : due p.place ≡ l.alive.marks.parked = sym waits ∙ ap mark_of l.lives in
+      ap (is_parked_at pid name) mark
+      ∙ (and_parts l.alive.marks.struck (is_parked_at pid name l.alive.marks.parked) l.may).1
+
+  -- what is next may follow, where the kernel has the process parked with the call that waits
+  next-follows : (k : Kernel) (pid n : ℕ) (s : Successor) (p : Progress) (call : Call) → is_call script call ≡ true
+      → transition k pid call n ≡ Some s → IsNext p call
+      → (p.parked ≡ true → mark_in k.processes pid ≡ due p.place)
+      → may_follow script pid (last_doom (living_at k pid)) p call ≡ true
+  next-follows k pid n s p (calls.Withdraw name) there step next waits =
+      and_from p.parked (is_parked_at pid name (due p.place)) next
+      (leaves-there k pid name n s p step (waits next))
+  next-follows k pid n s p call there step next waits =
+      let doom : Option Sig = last_doom (living_at k pid) in
+      and_from (not p.parked) (may_stand script doom (due_by doom (due p.place)) call) (ap not next.0)
+      (doom-stands p.place call there next.1 k pid n s refl step doom refl)
+
   -- an entry in the grammar that goes on is judged to have no fault
-  pub goes-on-judged : (line : ℕ) (so_far : Progress) (e : Entry) (kernel : Kernel) (place : Place)
+  pub goes-on-judged : (line : ℕ) (so_far : SoFar) (e : Entry) (kernel : Kernel) (p : Progress)
       → is_entry script e ≡ true
       → transition so_far.kernel e.pid e.call (number_in e.outcome.own) ≡ Some (successor kernel e.outcome)
-      → get so_far.places e.pid ≡ Some place → IsDue place e.call
+      → get so_far.places e.pid ≡ Some p → IsNext p e.call
+      → (p.parked ≡ true → mark_in so_far.kernel.processes e.pid ≡ due p.place)
       → judge_entry script line so_far e
-      ≡ Ok (record { kernel = kernel; places = places_after script so_far.places e place })
-  goes-on-judged line so_far e kernel place there step at is =
-      let a = is-alone script e there in
-      let own = own-is e a in
-      let doom : Option Sig = doom_at so_far e.pid in
-      let dues : due_at so_far e.pid ≡ due_by doom (due place) =
-      ap (option_and_then (λ (p : Place). due_by doom (due p))) at in
-      let may : may_stand script doom (due_at so_far e.pid) e.call ≡ true =
-      ap (λ (d : Option Call). may_stand script doom d e.call) dues
-      ∙ doom-stands place e.call a.call is so_far.kernel e.pid (number_in e.outcome.own)
-      (successor kernel e.outcome) step doom refl in
-      let number : transition so_far.kernel e.pid e.call (number_in (Some a.reply))
-      ≡ Some (successor kernel e.outcome) =
-      ap (λ (o : Option Reply). transition so_far.kernel e.pid e.call (number_in o)) (sym own) ∙ step in
-      let same : is_same_reply e.outcome.own a.reply ≡ true =
-      ap (λ (o : Option Reply). is_same_reply o a.reply) own ∙ reply-itself a.reply a.replies in
-      let after : Option Reply → Places = λ (o : Option Reply).
-      places_after_fork script (put so_far.places e.pid (move_on place e.call o)) place e.call o in
-      let judged : judge_own script line so_far e (Some a.reply)
-      ≡ Ok (record { kernel = kernel; places = after (Some a.reply) }) =
-      rw (may, number, same, at) refl in
-      ap (judge_own script line so_far e) own ∙ judged
-      ∙ ap (λ (o : Option Reply). Ok (record { kernel = kernel; places = after o })) (sym own)
+      ≡ Ok (record { kernel = kernel; places = places_after script so_far.places e p })
+  goes-on-judged line so_far e kernel p there step at next waits =
+      let g = in-grammar script e there in
+      let may : may_come script so_far e.pid e.call ≡ true =
+      ap (λ (o : Option Progress).
+      option_map_or (λ x. may_follow script e.pid (doom_at so_far e.pid) x e.call) o false) at
+      ∙ next-follows so_far.kernel e.pid (number_in e.outcome.own) (successor kernel e.outcome) p e.call g.call step
+      next waits in
+      let same : is_same_outcome e.outcome e.outcome ≡ true = outcome-itself e.outcome g.outcome in
+      rw (may, step, same, at) refl

@@ -1,5 +1,5 @@
 -- A trace is judged to be legal exactly where it is the text of a history that is legal and fits the script whole.
-use Rattle.std.proofs.Common.{◌≡◌, ◌∙◌, ℕ, zero, suc, ◌+◌, ◌-◌, Bool, true, false, not, cond, List, [], ◌∷◌, ◌++◌, length, Option, Some, None, is_some, refl, sym, ap, subst, append_assoc}
+use Rattle.std.proofs.Common.{◌≡◌, ◌⊎◌, inl, inr, ◌∙◌, ℕ, zero, suc, ◌+◌, ◌-◌, Bool, true, false, not, ◌&&◌, cond, List, [], ◌∷◌, ◌++◌, length, Option, Some, None, is_some, refl, sym, ap, subst, append_assoc}
 use Rattle.std.specs.Prelude.{Result, Ok, Err, IfOk}
 use Rattle.std.specs.List.{AllByRecursion}
 use Rattle.std.specs.Option.{option_map_or}
@@ -7,11 +7,12 @@ use Rattle.std.proofs.lemmas.List.{append-nil}
 use Rattle.pico_base.specs.declared.reply.Entry.{Entry}
 use Rattle.pico_base.specs.declared.script.Script.{Script}
 use Rattle.pico_base.specs.declared.script.Line.{Line}
-use Rattle.kernel_model.specs.Kernel.{Kernel, opening}
-use Rattle.kernel_model.specs.History.{Replays}
+use Rattle.waiting_model.specs.Kernel.{Kernel, opening}
+use Rattle.waiting_model.specs.History.{Replays}
 use Rattle.kernel_model.specs.Script.{IsSoundScript}
 use Rattle.kernel_model.specs.Trace.{totals_line}
-use Rattle.kernel_model.specs.Fitting.{Place, Places, IsOver, FitsFrom, due, call_due, opening_places}
+use Rattle.kernel_model.specs.Fitting.{Place, due, call_due}
+use Rattle.waiting_model.specs.Fitting.{Progress, Places, IsOver, FitsFrom, opening_places}
 use Rattle.trace_text.specs.Reading.{has_ended, is_line, entry_in}
 use Rattle.trace_text.specs.Read.{max_trace, next_line, fits, read_from}
 use Rattle.trace_text.specs.declared.fault.CheckFault.{CheckFault}
@@ -19,35 +20,53 @@ use Rattle.trace_text.specs.declared.fault.CheckFault.TheVariants.{NotATrace}
 use Rattle.trace_text.proofs.EntryLaws.{entry-takes}
 use Rattle.trace_text.proofs.Whole.{read-is}
 use Rattle.trace_check.specs.declared.check.Legal.{Legal}
-use Rattle.trace_check.specs.FirstFault.{Progress, opening_progress, judge_entry, judge_totals, judge_line, judge_from, first_unended, or_fault, verdict_of, Gives, CountsLegal}
+use Rattle.trace_check.specs.FirstFault.{SoFar, at_opening, judge_entry, judge_totals, judge_line, judge_from, goes_on, first_going, or_fault, verdict_of, Gives, CountsLegal}
 use Rattle.trace_check.proofs.Entries.{GoesOn, judged-goes-on}
 
--- Processes that have ended.
+-- Processes that have ended, or wait.
 
 no-call : (place : Place) (left : List Line) → is_some (call_due place left) ≡ false → left ≡ []
 no-call place [] h = refl
 no-call place (line ∷ lines) h = absurd (cc)
 
-ended-by : (p : ℕ × Place) (ps : Places) (b : Bool) → is_some (due p.1) ≡ b
-    → cond b (Some p.0) (first_unended ps) ≡ None → (first_unended ps ≡ None → AllByRecursion IsOver ps)
+over-by : (p : Progress) (parked : Bool) → p.parked ≡ parked → (some : Bool) → is_some (due p.place) ≡ some
+    → (not parked && some) ≡ false → (p.place.left ≡ []) ⊎ (p.parked ≡ true)
+over-by p true waits some is h = inr waits
+over-by p false waits true is h = absurd (cc)
+over-by p false waits false is h = inl (no-call p.place p.place.left is)
+
+over-all : (p : ℕ × Progress) (ps : Places) (b : Bool) → goes_on p.1 ≡ b
+    → cond b (Some p.0) (first_going ps) ≡ None → (first_going ps ≡ None → AllByRecursion IsOver ps)
     → AllByRecursion IsOver (p ∷ ps)
-ended-by p ps true is h rest = absurd (cc)
-ended-by p ps false is h rest = (no-call p.1 p.1.left is, rest h)
+over-all p ps true is h rest = absurd (cc)
+over-all p ps false is h rest =
+    (over-by p.1 p.1.parked refl (is_some (due p.1.place)) refl is, rest h)
 
--- where no process is found that has not ended, all have
-pub all-ended : (places : Places) → first_unended places ≡ None → AllByRecursion IsOver places
-all-ended [] h = tt
-all-ended (p ∷ ps) h = ended-by p ps (is_some (due p.1)) refl h (all-ended ps)
+-- where no process is found that goes on, all have ended or wait
+pub all-over : (places : Places) → first_going places ≡ None → AllByRecursion IsOver places
+all-over [] h = tt
+all-over (p ∷ ps) h = over-all p ps (goes_on p.1) refl h (all-over ps)
 
--- where all have, none is found
-pub none-unended : (places : Places) → AllByRecursion IsOver places → first_unended places ≡ None
-none-unended [] h = refl
-none-unended (p ∷ ps) h =
-    let none : is_some (call_due p.1 p.1.left) ≡ false = ap (λ (l : List Line). is_some (call_due p.1 l)) h.0 in
-    rw none (none-unended ps h.1)
+and-never : (b : Bool) → (b && false) ≡ false
+and-never true = refl
+and-never false = refl
+
+over-stays : (p : Progress) → (p.place.left ≡ []) ⊎ (p.parked ≡ true) → goes_on p ≡ false
+over-stays p (inl none) =
+    let ended : is_some (call_due p.place p.place.left) ≡ false =
+    ap (λ (l : List Line). is_some (call_due p.place l)) none in
+    rw ended (and-never (not p.parked))
+over-stays p (inr waits) = rw waits refl
+
+-- where all have ended or wait, none is found
+pub none-going : (places : Places) → AllByRecursion IsOver places → first_going places ≡ None
+none-going [] h = refl
+none-going (p ∷ ps) h =
+    let over : goes_on p.1 ≡ false = over-stays p.1 h.0 in
+    rw over (none-going ps h.1)
 
 -- A history that goes on from here to its whole text.
-pub record Follows (script : Script) (n line left : ℕ) (done : List Entry) (so_far : Progress) (bytes : List ℕ)
+pub record Follows (script : Script) (n line left : ℕ) (done : List Entry) (so_far : SoFar) (bytes : List ℕ)
     (legal : Legal) : Type 0 where
   pub history : List Entry
   pub more : List Entry
@@ -61,7 +80,7 @@ pub record Follows (script : Script) (n line left : ℕ) (done : List Entry) (so
   pub count : legal.entries ≡ length history
 
 module _ (script : Script) (sound : IsSoundScript script) where
-  follows-entry : (n line left : ℕ) (done : List Entry) (so_far next : Progress) (bytes text after : List ℕ) (e : Entry)
+  follows-entry : (n line left : ℕ) (done : List Entry) (so_far next : SoFar) (bytes text after : List ℕ) (e : Entry)
       (legal : Legal) → next_line bytes ≡ Some (text, after) → fits left text ≡ true
       → is_line (totals_line done) text ≡ false → entry_in script text ≡ Some e
       → GoesOn script so_far e next
@@ -78,10 +97,9 @@ module _ (script : Script) (sound : IsSoundScript script) where
         replays = record { next = next.kernel; step = goes.step; rest = rest.replays };
         places = rest.places;
         fits = record {
-          place = goes.place;
+          progress = goes.progress;
           there = goes.there;
-          due = goes.due;
-          replied = goes.replied;
+          next = goes.next;
           rest = subst (λ (p : Places). FitsFrom script p rest.more rest.places) goes.moved rest.fits;
         };
         over = rest.over;
@@ -89,7 +107,7 @@ module _ (script : Script) (sound : IsSoundScript script) where
       }
 
   -- what is judged to be legal is a history that goes on from here
-  pub judged-follows : (n line left : ℕ) (done : List Entry) (so_far : Progress) (bytes : List ℕ) (legal : Legal)
+  pub judged-follows : (n line left : ℕ) (done : List Entry) (so_far : SoFar) (bytes : List ℕ) (legal : Legal)
       → judge_from script n line left done so_far bytes ≡ Ok legal
       → Follows script n line left done so_far bytes legal
   unfolding judge_from read_from
@@ -99,9 +117,9 @@ module _ (script : Script) (sound : IsSoundScript script) where
     where
       at-entry : (text after : List ℕ) (e : Entry) → next_line bytes ≡ Some (text, after) → fits left text ≡ true
           → is_line (totals_line done) text ≡ false → entry_in script text ≡ Some e
-          → (r : Result Progress CheckFault) → judge_entry script line so_far e ≡ r
+          → (r : Result SoFar CheckFault) → judge_entry script line so_far e ≡ r
           → or_fault r (λ next. judge_from script n (line + 1) (left - (length text + 1)) (done ++ e ∷ []) next after)
-          ≡ Ok legal → ((left' : ℕ) (done' : List Entry) (next : Progress) (after : List ℕ)
+          ≡ Ok legal → ((left' : ℕ) (done' : List Entry) (next : SoFar) (after : List ℕ)
           → judge_from script n (line + 1) left' done' next after ≡ Ok legal
           → Follows script n (line + 1) left' done' next after legal)
           → Follows script (suc n) line left done so_far bytes legal
@@ -113,16 +131,16 @@ module _ (script : Script) (sound : IsSoundScript script) where
           (later (left - (length text + 1)) (done ++ e ∷ []) next after h)
 
       at-totals : (text after : List ℕ) → next_line bytes ≡ Some (text, after) → fits left text ≡ true
-          → is_line (totals_line done) text ≡ true → (o : Option ℕ) → first_unended so_far.places ≡ o
+          → is_line (totals_line done) text ≡ true → (o : Option ℕ) → first_going so_far.places ≡ o
           → (d : Bool) → has_ended after ≡ d
           → judge_totals line (length done) so_far after o ≡ Ok legal
           → Follows script (suc n) line left done so_far bytes legal
-      at-totals text after there fit totals (Some pid) unended d ended h = absurd (cc)
-      at-totals text after there fit totals None unended false ended h =
+      at-totals text after there fit totals (Some pid) going d ended h = absurd (cc)
+      at-totals text after there fit totals None going false ended h =
           let no : cond false (Ok (record { entries = length done })) (Err (NotATrace (line + 1))) ≡ Ok legal =
           ap (λ (b : Bool). cond b (Ok (record { entries = length done })) (Err (NotATrace (line + 1)))) (sym ended)
           ∙ h in absurd (cc)
-      at-totals text after there fit totals None unended true ended h =
+      at-totals text after there fit totals None going true ended h =
           let yes : cond true (Ok (record { entries = length done })) (Err (NotATrace (line + 1))) ≡ Ok legal =
           ap (λ (b : Bool). cond b (Ok (record { entries = length done })) (Err (NotATrace (line + 1)))) (sym ended)
           ∙ h in
@@ -136,24 +154,24 @@ module _ (script : Script) (sound : IsSoundScript script) where
             replays = refl;
             places = so_far.places;
             fits = refl;
-            over = all-ended so_far.places unended;
+            over = all-over so_far.places going;
             count = ap (λ (l : Legal). l.entries) (sym same);
           }
 
       at-line : (text after : List ℕ) → next_line bytes ≡ Some (text, after) → (b : Bool) → fits left text ≡ b
           → (c : Bool) → is_line (totals_line done) text ≡ c → (o : Option Entry) → entry_in script text ≡ o
           → cond (not b) (Err (NotATrace line))
-          (cond c (judge_totals line (length done) so_far after (first_unended so_far.places))
+          (cond c (judge_totals line (length done) so_far after (first_going so_far.places))
           (option_map_or (λ e. or_fault (judge_entry script line so_far e) (λ next.
           judge_from script n (line + 1) (left - (length text + 1)) (done ++ e ∷ []) next after)) o
           (Err (NotATrace line)))) ≡ Ok legal
-          → ((left' : ℕ) (done' : List Entry) (next : Progress) (after : List ℕ)
+          → ((left' : ℕ) (done' : List Entry) (next : SoFar) (after : List ℕ)
           → judge_from script n (line + 1) left' done' next after ≡ Ok legal
           → Follows script n (line + 1) left' done' next after legal)
           → Follows script (suc n) line left done so_far bytes legal
       at-line text after there false fit c totals o entry h later = absurd (cc)
       at-line text after there true fit true totals o entry h later =
-          at-totals text after there fit totals (first_unended so_far.places) refl (has_ended after) refl h
+          at-totals text after there fit totals (first_going so_far.places) refl (has_ended after) refl h
       at-line text after there true fit false totals None entry h later = absurd (cc)
       at-line text after there true fit false totals (Some e) entry h later =
           at-entry text after e there fit totals entry (judge_entry script line so_far e) refl h later
@@ -162,7 +180,7 @@ module _ (script : Script) (sound : IsSoundScript script) where
           → option_map_or (λ (p : List ℕ × List ℕ). judge_line script line left done so_far p.0 p.1
           (λ e next. judge_from script n (line + 1) (left - (length p.0 + 1)) (done ++ e ∷ []) next p.1)) o
           (Err (NotATrace line)) ≡ Ok legal
-          → ((left' : ℕ) (done' : List Entry) (next : Progress) (after : List ℕ)
+          → ((left' : ℕ) (done' : List Entry) (next : SoFar) (after : List ℕ)
           → judge_from script n (line + 1) left' done' next after ≡ Ok legal
           → Follows script n (line + 1) left' done' next after legal)
           → Follows script (suc n) line left done so_far bytes legal
@@ -175,7 +193,7 @@ module _ (script : Script) (sound : IsSoundScript script) where
   pub judged-legal : (bytes : List ℕ) (first : ℕ) (legal : Legal) → verdict_of script bytes first ≡ Ok legal
       → CountsLegal script bytes legal.entries
   judged-legal bytes first legal h =
-      let f = judged-follows (length bytes) first max_trace [] (opening_progress script) bytes legal h in
+      let f = judged-follows (length bytes) first max_trace [] (at_opening script) bytes legal h in
       let same : f.more ≡ f.history = sym f.is in
       record {
         history = f.history;

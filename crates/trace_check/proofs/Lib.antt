@@ -1,3 +1,4 @@
+pub mod Carried
 pub mod Cases
 pub mod Completes
 pub mod CursorLaws
@@ -9,5 +10,6 @@ pub mod Kernels
 pub mod PlaceLaws
 pub mod SameTexts
 pub mod StandingLaws
-pub mod TallyLaws
+pub mod SteadyLaws
+pub mod Waits
 pub mod Examples

@@ -3,4 +3,3 @@ pub mod FirstFault
 pub mod Judging
 pub mod Refusal
 pub mod Standings
-pub mod Tally

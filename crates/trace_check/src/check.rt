@@ -8,6 +8,7 @@ use crate::judge::Judge;
 use pico_base::Script;
 use std::alloc::Global;
 use trace_text::{CheckFault, MAX_TRACE, entry_in, fits, next_line};
+use waiting_laws::{entries_move_marks, entries_wake_rightly};
 
 /// The bytes are the text, with any nodes, of a history that is legal and fits the script whole.
 #[derive(Clone, Copy, Debug, PartialEq, Eq)]
@@ -35,7 +36,7 @@ fn judge(alloc: Global, script: &Script, bytes: &[u8], first_line: u32) -> Resul
             return Err(CheckFault::NotATrace { line });
         }
         if judge.is_totals(text, &mut scratch)? {
-            return judge.totals(script, line, after);
+            return judge.totals(script, line, line - first_line, after);
         }
         let Some(entry) = entry_in(alloc, script, text, &mut scratch)? else {
             return Err(CheckFault::NotATrace { line });
@@ -58,9 +59,11 @@ fn judge(alloc: Global, script: &Script, bytes: &[u8], first_line: u32) -> Resul
 /// 1. `NotATrace`: the line is none of a trace, or has other totals; or a line follows the totals; or a limit is
 ///    passed; or the bytes end before the totals, at the line behind the last one.
 /// 2. `NotTheScript`: the process was not forked, or has ended, or another call is due; or, at the totals, a process
-///    has not ended, of which that of the smallest number is named. A process that was doomed, and has had the entry
-///    that it may still have, has its end due. In place of the script's call the end by any signal may stand.
-/// 3. `Illegal`: the kernel has no transition there, or another reply.
+///    has neither ended nor waits, of which that of the smallest number is named. A process that waits has its
+///    withdrawal due, from where it waits. One that was doomed, and has had the entry that it may still have, has its
+///    end due. In place of the script's call the end by any signal may stand.
+/// 3. `Illegal`: the kernel has no transition there, or another outcome: another reply, or other callers that are woken,
+///    or with other replies, or in another order.
 ///
 /// `Memory` comes where an allocation was refused.
 pub fn check_trace(
@@ -78,5 +81,8 @@ pub fn check_trace(
     ensures only { (history : List EntryValue) → IsLegalTrace script.now bytes.now history
         → (result ≡ Ok (record { entries = length history })) ⊎ (result ≡ Err CheckFault.Memory) }
 {
+    // Laws of the kernel by which a legal trace is judged to be one.
+    entries_move_marks();
+    entries_wake_rightly();
     judge(alloc, script, bytes, first_line)
 }

@@ -1,29 +1,29 @@
 //! What the entries so far have led to, and the judging of the next one.
-ghost use Rattle.std.specs.Prelude.{◌≡◌, ◌^◌, ◌<◌, ◌-◌, ◌∷◌, [], is_some, IsTrue, IfOk, OnOk, Some};
-ghost use Rattle.kernel_model.specs.History.{number_in};
-ghost use Rattle.kernel_model.specs.Kernel.{opening};
-ghost use Rattle.kernel_model.specs.Script.{IsSoundScript};
+ghost use Rattle.std.specs.Prelude.{◌≡◌, ◌^◌, ◌<◌, ◌-◌, ◌∷◌, ◌++◌, [], List, fold, IsTrue, IfOk, IfSome, OnOk, is_some, Some};
+ghost use Rattle.pico_base.specs.declared.reply.Entry.{Entry as EntryValue};
 ghost use Rattle.kernel_model.specs.Fitting.{due};
-ghost use Rattle.kernel_model.specs.Trace.{is_fork};
-ghost use Rattle.kernel_model.specs.Transition.{transition};
+ghost use Rattle.kernel_model.specs.History.{number_in};
+ghost use Rattle.kernel_model.specs.Script.{IsSoundScript};
+ghost use Rattle.kernel_model.specs.Trace.{totals_line};
 ghost use Rattle.number_maps.specs.Maps.{get};
+ghost use Rattle.waiting_model.specs.Kernel.{opening};
+ghost use Rattle.waiting_model.specs.Transition.{transition};
 ghost use Rattle.trace_text.specs.Reading.{is_line as is_line_of};
-ghost use Rattle.trace_text.specs.Totals.{counts_of};
-ghost use Rattle.trace_check.specs.Cursors.{AreSteady, HasCall, IsSteady, beginning, forked_at, forked_by, moved_at, moved_on, place_of, places_of};
-ghost use Rattle.trace_check.specs.FirstFault.{Gives, judge_entry, judge_made, judge_reply, judge_totals, first_unended};
-ghost use Rattle.trace_check.specs.Judging.{Carried, CountsEntry, Yields, progress_of};
-ghost use Rattle.trace_check.specs.Tally.{line_of, with_reply};
+ghost use Rattle.trace_text.specs.Totals.{tally_of};
+ghost use Rattle.trace_check.specs.Cursors.{AreSteady, IsSteady, MayMake, MayMakeAt, after_made, after_woken, beginning, forked_at, forked_by, moved_at, moved_on, place_of, places_of};
+ghost use Rattle.trace_check.specs.FirstFault.{Gives, first_going, judge_entry, judge_made, judge_outcome, judge_totals};
+ghost use Rattle.trace_check.specs.Judging.{Carried, Yields, so_far_of};
 
 use crate::check::Legal;
 use crate::cursor::Cursor;
-use crate::due::{Cursors, due_in, first_unended, last_doom, may_stand};
-use crate::same::{Texts, is_same_reply};
-use crate::tally::{Tally, is_fork};
+use crate::due::{Cursors, due_in, first_going, last_doom, may_come};
+use crate::same::{Texts, is_same_outcome};
 use mono_kernel::{CallFault, Kernel};
 use pico_base::{Call, Entry, Memory, Node, Outcome, Pid, Reply, Script, Vars};
 use std::alloc::Global;
 use std::collections::BTreeMap;
-use trace_text::CheckFault;
+use std::slice;
+use trace_text::{CheckFault, Tally, begins_like_totals, is_line, push_tally};
 
 /// The kernel, the processes in their blocks, and what the totals count.
 #[derive(Drop)]
@@ -36,11 +36,11 @@ pub(crate) struct Judge {
 }
 
 /// The number that a call with this reply may have created: the one in it, and else 0.
-fn number_in(reply: &Reply) -> u32
-    ensures { result ≡ number_in (Some reply.now) }
+fn number_in(own: &Option<Reply>) -> u32
+    ensures { result ≡ number_in own.now }
 {
-    match reply {
-        Reply::Num(number) => *number,
+    match own {
+        Some(Reply::Num(number)) => *number,
         _ => 0,
     }
 }
@@ -61,33 +61,33 @@ fn outcome_of(
     }
 }
 
-/// The kernel carries the call out, and replies the same as the line. The line's reply comes back.
+/// The kernel carries the call out, and comes to the same as the line. The line's outcome comes back.
 fn carry_out(
     kernel: &mut Kernel,
     line: u32,
     pid: Pid,
     call: &Call,
-    reply: Reply,
+    outcome: Outcome,
     texts: &mut Texts,
-) -> Result<Reply, CheckFault>
+) -> Result<Outcome, CheckFault>
     ensures yields { Yields result kernel.new
-        (judge_reply line reply (transition kernel.old pid call.now (number_in (Some reply)))) }
-    ensures same { IfOk result (λ back. back ≡ reply) }
+        (judge_outcome line outcome (transition kernel.old pid call.now (number_in outcome.own))) }
+    ensures same { IfOk result (λ back. back ≡ outcome) }
 {
-    let Some(outcome) = outcome_of(kernel, pid, call, number_in(&reply))? else {
+    let Some(its) = outcome_of(kernel, pid, call, number_in(&outcome.own))? else {
         return Err(CheckFault::Illegal {
             line,
             kernel: None,
-            trace: reply,
+            trace: outcome,
         });
     };
-    if is_same_reply(&outcome.own, &reply, texts)? {
-        Ok(reply)
+    if is_same_outcome(&its, &outcome, texts)? {
+        Ok(outcome)
     } else {
         Err(CheckFault::Illegal {
             line,
-            kernel: outcome.own,
-            trace: reply,
+            kernel: Some(its),
+            trace: outcome,
         })
     }
 }
@@ -98,17 +98,17 @@ fn forked_child(
     script: &Script,
     parent: &Cursor,
     call: &Call,
-    reply: &Reply,
+    own: &Option<Reply>,
 ) -> Result<Option<(Pid, Cursor)>, Memory>
     requires sound { IsSoundScript script.now }
-    requires steady { IsSteady parent.now }
-    requires due { IsTrue (is_some (due (place_of script.now parent.now))) }
-    ensures { IfOk result (λ child. child ≡ forked_by script.now parent.now call.now reply.now) }
+    requires steady { IsSteady script.now parent.now }
+    requires may { MayMake script.now parent.now call.now }
+    ensures { IfOk result (λ child. child ≡ forked_by script.now parent.now call.now own.now) }
 {
     let Call::Fork { block } = call else {
         return Ok(None);
     };
-    let Reply::Num(child) = reply else {
+    let Some(Reply::Num(child)) = own else {
         return Ok(None);
     };
     let vars = parent.child_vars(script)?;
@@ -122,38 +122,87 @@ fn forked_at(
     cursors: &Cursors,
     pid: Pid,
     call: &Call,
-    reply: &Reply,
+    own: &Option<Reply>,
 ) -> Result<Option<(Pid, Cursor)>, Memory>
     requires sound { IsSoundScript script.now }
-    requires steady { AreSteady cursors.now.entries }
-    requires due { HasCall script.now cursors.now.entries pid }
+    requires steady { AreSteady script.now cursors.now.entries }
+    requires may { MayMakeAt script.now cursors.now.entries pid call.now }
     ensures { IfOk result
-        (λ child. child ≡ forked_at script.now (get cursors.now.entries pid) call.now reply.now) }
+        (λ child. child ≡ forked_at script.now (get cursors.now.entries pid) call.now own.now) }
 {
     match cursors.get(&pid) {
-        Some(parent) => forked_child(alloc, script, parent, call, reply),
+        Some(parent) => forked_child(alloc, script, parent, call, own),
         None => Ok(None),
     }
 }
 
-/// The process has made this call, and has this reply.
+/// The process has made this call, which has this reply, or parks.
 fn move_at(
     script: &Script,
     cursors: &mut Cursors,
     pid: Pid,
-    call: Call,
-    reply: &Reply,
+    call: &Call,
+    own: &Option<Reply>,
 ) -> Result<(), Memory>
     requires sound { IsSoundScript script.now }
-    requires steady { AreSteady cursors.old.entries }
-    requires due { HasCall script.now cursors.old.entries pid }
+    requires steady { AreSteady script.now cursors.old.entries }
+    requires may { MayMakeAt script.now cursors.old.entries pid call.now }
     ensures { OnOk result (cursors.new.entries
-        ≡ moved_at script.now cursors.old.entries pid call reply.now (get cursors.old.entries pid)) }
+        ≡ moved_at script.now cursors.old.entries pid call.now own.now (get cursors.old.entries pid)) }
 {
     match cursors.get_mut(&pid) {
-        Some(cursor) => cursor.goes_on(script, call, reply),
+        Some(cursor) => cursor.goes_on(script, call, own),
         None => Ok(()),
     }
+}
+
+/// The processes after an entry, but for those that it wakes.
+fn make(
+    alloc: Global,
+    script: &Script,
+    cursors: &mut Cursors,
+    pid: Pid,
+    call: &Call,
+    own: &Option<Reply>,
+) -> Result<(), Memory>
+    requires sound { IsSoundScript script.now }
+    requires steady { AreSteady script.now cursors.old.entries }
+    requires may { MayMakeAt script.now cursors.old.entries pid call.now }
+    ensures { OnOk result (cursors.new.entries
+        ≡ after_made script.now cursors.old.entries pid call.now own.now (get cursors.old.entries pid)) }
+{
+    let forked = forked_at(alloc, script, cursors, pid, call, own)?;
+    move_at(script, cursors, pid, call, own)?;
+    if let Some((child, cursor)) = forked {
+        cursors.insert(child, cursor)?;
+    }
+    Ok(())
+}
+
+/// One who is woken goes on with its reply.
+fn wake(script: &Script, cursors: &mut Cursors, pid: Pid, reply: &Reply) -> Result<(), Memory>
+    requires { AreSteady script.now cursors.old.entries }
+    ensures woken { OnOk result (cursors.new.entries
+        ≡ after_woken script.now cursors.old.entries (pid, reply.now)) }
+    ensures steady { OnOk result (AreSteady script.now cursors.new.entries) }
+{
+    match cursors.get_mut(&pid) {
+        Some(cursor) => cursor.answers(script, reply),
+        None => Ok(()),
+    }
+}
+
+/// All who are woken go on.
+fn wake_all(script: &Script, cursors: &mut Cursors, woken: &[(Pid, Reply)]) -> Result<(), Memory>
+    requires { AreSteady script.now cursors.old.entries }
+    ensures woken { OnOk result (cursors.new.entries
+        ≡ fold (after_woken script.now) cursors.old.entries woken.now) }
+    ensures steady { OnOk result (AreSteady script.now cursors.new.entries) }
+{
+    for (pid, reply) in woken {
+        wake(script, cursors, *pid, reply)?;
+    }
+    Ok(())
 }
 
 /// The processes after an entry.
@@ -162,20 +211,18 @@ fn move_on(
     script: &Script,
     cursors: &mut Cursors,
     pid: Pid,
-    call: Call,
-    reply: &Reply,
+    call: &Call,
+    outcome: &Outcome,
 ) -> Result<(), Memory>
     requires sound { IsSoundScript script.now }
-    requires steady { AreSteady cursors.old.entries }
-    requires due { HasCall script.now cursors.old.entries pid }
-    ensures { OnOk result (cursors.new.entries ≡ moved_on script.now cursors.old.entries pid call reply.now) }
+    requires steady { AreSteady script.now cursors.old.entries }
+    requires may { MayMakeAt script.now cursors.old.entries pid call.now }
+    ensures moved { OnOk result (cursors.new.entries
+        ≡ moved_on script.now cursors.old.entries pid call.now outcome.now) }
+    ensures steady { OnOk result (AreSteady script.now cursors.new.entries) }
 {
-    let forked = forked_at(alloc, script, cursors, pid, &call, reply)?;
-    move_at(script, cursors, pid, call, reply)?;
-    if let Some((child, cursor)) = forked {
-        cursors.insert(child, cursor)?;
-    }
-    Ok(())
+    make(alloc, script, cursors, pid, call, &outcome.own)?;
+    wake_all(script, cursors, outcome.woken.as_slice())
 }
 
 impl Judge {
@@ -183,7 +230,7 @@ impl Judge {
     pub(crate) fn new(alloc: Global) -> Result<Judge, Memory>
         ensures kernel { IfOk result (λ j. j.kernel ≡ opening) }
         ensures cursors { IfOk result (λ j. j.cursors.entries ≡ (1, beginning 1 []) ∷ []) }
-        ensures tally { IfOk result (λ j. j.tally ≡ counts_of []) }
+        ensures tally { IfOk result (λ j. j.tally ≡ tally_of []) }
     {
         let mut cursors = BTreeMap::new(alloc);
         cursors.insert(Pid(1), Cursor::new(alloc, Node(1), Vars::new(alloc)))?;
@@ -196,51 +243,61 @@ impl Judge {
         })
     }
 
-    /// Whether the line is the totals of the entries so far.
+    /// Whether the line is the totals of the entries so far. They are printed only where the line begins like that.
     pub(crate) fn is_totals(&self, line: &[u8], scratch: &mut Vec<u8>) -> Result<bool, Memory>
-        requires { self.now.tally.entries < 2 ^ 32 }
-        ensures { IfOk result (λ is. is ≡ is_line_of (line_of self.now.tally) line.now) }
+        ensures { (done : List EntryValue) → self.now.tally ≡ tally_of done
+            → IfOk result (λ is. is ≡ is_line_of (totals_line done) line.now) }
     {
-        self.tally.is_totals(line, scratch)
+        if !begins_like_totals(line) {
+            return Ok(false);
+        }
+        scratch.clear();
+        push_tally(scratch, &self.tally)?;
+        Ok(is_line(scratch, line))
     }
 
-    /// Judges a call with its reply, and counts it.
+    /// Judges a call with its outcome.
     fn call(
         &mut self,
         script: &Script,
         line: u32,
         pid: Pid,
         call: Call,
-        reply: Reply,
+        outcome: Outcome,
     ) -> Result<(), CheckFault>
         requires sound { IsSoundScript script.now }
-        requires steady { AreSteady self.old.cursors.entries }
-        requires few { self.old.tally.entries < 2 ^ 32 }
-        ensures judged { Yields result (progress_of script.now self.new.kernel self.new.cursors.entries)
-            (judge_made script.now line (progress_of script.now self.old.kernel self.old.cursors.entries) pid call
-            reply) }
-        ensures steady { OnOk result (AreSteady self.new.cursors.entries) }
-        ensures tally { OnOk result (self.new.tally ≡ with_reply self.old.tally (is_fork call) reply) }
+        requires steady { AreSteady script.now self.old.cursors.entries }
+        ensures judged { Yields result (so_far_of script.now self.new.kernel self.new.cursors.entries)
+            (judge_made script.now line (so_far_of script.now self.old.kernel self.old.cursors.entries) pid call
+            outcome) }
+        ensures steady { OnOk result (AreSteady script.now self.new.cursors.entries) }
+        ensures tally { self.new.tally ≡ self.old.tally }
     {
         let doom = last_doom(&self.kernel, pid);
-        let due = due_in(script, &self.cursors, pid, doom)?;
-        if !may_stand(script, doom, &due, &call, &mut self.texts)? {
+        if !may_come(script, &self.cursors, pid, doom, &call, &mut self.texts)? {
+            let due = due_in(script, &self.cursors, pid, doom)?;
             return Err(CheckFault::NotTheScript {
                 line,
                 due,
                 found: Some(call),
             });
         }
-        let reply = match carry_out(&mut self.kernel, line, pid, &call, reply, &mut self.texts) {
-            Ok(reply) => reply,
+        let outcome = match carry_out(
+            &mut self.kernel,
+            line,
+            pid,
+            &call,
+            outcome,
+            &mut self.texts,
+        ) {
+            Ok(outcome) => outcome,
             Err(fault) => return Err(fault),
         };
-        self.tally.count(is_fork(&call), &reply);
-        move_on(self.alloc, script, &mut self.cursors, pid, call, &reply)?;
+        move_on(self.alloc, script, &mut self.cursors, pid, &call, &outcome)?;
         Ok(())
     }
 
-    /// Judges the next entry.
+    /// Judges the next entry, and counts it.
     pub(crate) fn entry(
         &mut self,
         script: &Script,
@@ -248,41 +305,38 @@ impl Judge {
         entry: Entry,
     ) -> Result<(), CheckFault>
         requires sound { IsSoundScript script.now }
-        requires steady { AreSteady self.old.cursors.entries }
-        requires few { self.old.tally.entries < 2 ^ 32 }
-        ensures judged { Yields result (progress_of script.now self.new.kernel self.new.cursors.entries)
-            (judge_entry script.now line (progress_of script.now self.old.kernel self.old.cursors.entries) entry) }
-        ensures steady { OnOk result (AreSteady self.new.cursors.entries) }
-        ensures tally { OnOk result (CountsEntry self.old.tally entry self.new.tally) }
+        requires steady { AreSteady script.now self.old.cursors.entries }
+        ensures judged { Yields result (so_far_of script.now self.new.kernel self.new.cursors.entries)
+            (judge_entry script.now line (so_far_of script.now self.old.kernel self.old.cursors.entries) entry) }
+        ensures steady { OnOk result (AreSteady script.now self.new.cursors.entries) }
+        ensures tally { (done : List EntryValue) → self.old.tally ≡ tally_of done
+            → OnOk result (self.new.tally ≡ tally_of (done ++ entry ∷ [])) }
     {
+        self.tally.add(slice::from_ref(&entry))?;
         let Entry {
             pid,
             call,
             outcome,
             by: _,
         } = entry;
-        let Outcome { own, woken: _ } = outcome;
-        match own {
-            Some(reply) => self.call(script, line, pid, call, reply),
-            None => Err(CheckFault::NotATrace { line }),
-        }
+        self.call(script, line, pid, call, outcome)
     }
 
-    /// Judges the totals, behind which there is something more or not.
+    /// Judges the totals of so many entries, behind which there is something more or not.
     pub(crate) fn totals(
         &self,
         script: &Script,
         line: u32,
+        entries: u32,
         after: &[u8],
     ) -> Result<Legal, CheckFault>
         requires sound { IsSoundScript script.now }
-        requires few { self.now.tally.entries < 2 ^ 32 }
         requires line { line < 2 ^ 32 - 1 }
-        ensures { Gives result (judge_totals line self.now.tally.entries
-            (progress_of script.now self.now.kernel self.now.cursors.entries) after.now
-            (first_unended (places_of script.now self.now.cursors.entries))) }
+        ensures { Gives result (judge_totals line entries
+            (so_far_of script.now self.now.kernel self.now.cursors.entries) after.now
+            (first_going (places_of script.now self.now.cursors.entries))) }
     {
-        if let Some(pid) = first_unended(script, &self.cursors) {
+        if let Some(pid) = first_going(script, &self.cursors) {
             let due = due_in(script, &self.cursors, pid, last_doom(&self.kernel, pid))?;
             return Err(CheckFault::NotTheScript {
                 line,
@@ -293,8 +347,6 @@ impl Judge {
         if !after.is_empty() {
             return Err(CheckFault::NotATrace { line: line + 1 });
         }
-        Ok(Legal {
-            entries: self.tally.entries() as u32,
-        })
+        Ok(Legal { entries })
     }
 }

@@ -8,7 +8,6 @@ mod due;
 mod judge;
 mod refusal;
 mod same;
-mod tally;
 
 pub use check::{Legal, check_trace};
 pub use refusal::write_refusal;

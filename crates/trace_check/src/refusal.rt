@@ -3,9 +3,9 @@ ghost use Rattle.std.specs.Prelude.{◌≡◌, ◌++◌, ◌∷◌, [], codes, I
 ghost use Rattle.trace_check.specs.Refusal as spec;
 ghost use Rattle.trace_check.specs.Refusal.{IsRefusal, refusal_text};
 
-use pico_base::{Bytes, Call, Memory, Reply, Script};
+use pico_base::{Bytes, Call, Memory, Outcome, Script};
 use std::alloc::Global;
-use trace_text::{CheckFault, push, push_byte, push_call, push_number, push_reply};
+use trace_text::{CheckFault, push, push_byte, push_call, push_number, push_outcome};
 
 /// What each of these lines begins with.
 #[tactic(auto, unfolding(crate::specs::Refusal::not_legal))]
@@ -32,12 +32,12 @@ fn push_call_or(
     }
 }
 
-/// The kernel's reply, or `none`.
-fn push_reply_or_none(out: &mut Vec<u8>, reply: &Option<Reply>) -> Result<(), Memory>
-    ensures { OnOk result (out.new.items ≡ out.old.items ++ spec.reply_or_none reply.now) }
+/// The kernel's outcome, or `none`.
+fn push_outcome_or_none(out: &mut Vec<u8>, outcome: &Option<Outcome>) -> Result<(), Memory>
+    ensures { OnOk result (out.new.items ≡ out.old.items ++ spec.outcome_or_none outcome.now) }
 {
-    match reply {
-        Some(reply) => push_reply(out, reply),
+    match outcome {
+        Some(outcome) => push_outcome(out, outcome),
         None => push(out, b"none"),
     }
 }
@@ -58,14 +58,14 @@ fn push_calls(
     push_byte(out, b'\n')
 }
 
-/// What the kernel replies, and what the trace has.
-fn push_replies(out: &mut Vec<u8>, kernel: &Option<Reply>, trace: &Reply) -> Result<(), Memory>
-    ensures { OnOk result (out.new.items ≡ out.old.items ++ spec.replies_text kernel.now trace.now) }
+/// What the call comes to in the kernel, and by the trace.
+fn push_outcomes(out: &mut Vec<u8>, kernel: &Option<Outcome>, trace: &Outcome) -> Result<(), Memory>
+    ensures { OnOk result (out.new.items ≡ out.old.items ++ spec.outcomes_text kernel.now trace.now) }
 {
     push(out, b"kernel ")?;
-    push_reply_or_none(out, kernel)?;
+    push_outcome_or_none(out, kernel)?;
     push(out, b" trace ")?;
-    push_reply(out, trace)?;
+    push_outcome(out, trace)?;
     push_byte(out, b'\n')
 }
 
@@ -88,14 +88,15 @@ fn push_refusal(out: &mut Vec<u8>, script: &Script, fault: &CheckFault) -> Resul
             trace,
         } => {
             push_not_legal(out, *line)?;
-            push_replies(out, kernel, trace)
+            push_outcomes(out, kernel, trace)
         }
     }
 }
 
 /// The line that says why a trace of this script isn't legal: its line, and which call was due and which was found
-/// (`nothing` where none is due, `totals` for the totals line), or what the kernel replies and what the trace has
-/// (`none` where the kernel has no transition). Want of memory is no refusal.
+/// (`nothing` where none is due, `totals` for the totals line), or what the call comes to in the kernel (`none` where
+/// that has no transition) and by the trace: the caller's reply or `parked`, and whom it wakes. Want of memory is no
+/// refusal.
 pub fn write_refusal(alloc: Global, script: &Script, fault: &CheckFault) -> Result<Bytes, Memory>
     requires { IsRefusal fault.now }
     ensures { IfOk result (λ text. text ≡ refusal_text script.now fault.now) }

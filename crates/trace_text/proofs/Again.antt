@@ -1,16 +1,16 @@
 -- Each trace within the limits is read as its history.
-use Rattle.std.proofs.Common.{◌≡◌, ◌⊎◌, inl, inr, ◌∙◌, ℕ, ◌+◌, ◌-◌, ◌≤◌, ◌<◌, Bool, true, false, not, leb, ltb, eqb, List, [], ◌∷◌, ◌++◌, length, drop, get_or, Option, Some, refl, sym, ap, subst, append_assoc, arith}
+use Rattle.std.proofs.Common.{◌≡◌, ◌⊎◌, inl, inr, ◌∙◌, ℕ, ◌+◌, ◌-◌, ◌≤◌, ◌<◌, Bool, true, false, not, leb, ltb, eqb, List, [], ◌∷◌, ◌++◌, length, drop, get_or, Option, Some, refl, sym, ap, append_assoc, arith}
 use Rattle.std.specs.Prelude.{codes, decimal, position, Result, Ok, Err}
 use Rattle.std.specs.List.{flat_map, list_all, position_or_len, count_by, sum_by}
 use Rattle.std.proofs.lemmas.Bool.{and_parts, and_from, leb-true, le-leb, lt-ltb}
 use Rattle.std.proofs.lemmas.List.{append-nil, length-append, take_at, drop_at}
 use Rattle.std.proofs.lemmas.List.Sums.{sum_by-cons, count_by-le-length}
 use Rattle.pico_base.specs.declared.reply.Entry.{Entry}
+use Rattle.pico_base.specs.declared.reply.Outcome.{Outcome}
 use Rattle.pico_base.specs.declared.reply.Reply.{Reply}
 use Rattle.pico_base.specs.declared.script.Script.{Script}
-use Rattle.kernel_model.specs.Effect.{reply_alone}
 use Rattle.kernel_model.specs.Script.{IsSoundScript, is_fork}
-use Rattle.kernel_model.specs.Trace.{call_text, reply_text, entry_line, totals_line, entries_total, processes_total, not_ready_total, refused_total, replies_where, is_not_ready_reply, is_refused_reply}
+use Rattle.kernel_model.specs.Trace.{call_text, own_text, wake_text, made_text, entry_line, totals_line, entries_total, processes_total, not_ready_total, refused_total, replies_where, is_not_ready_reply, is_refused_reply}
 use Rattle.text_fields.proofs.Numerals.{decimal_first}
 use Rattle.trace_text.specs.declared.fault.CheckFault.{CheckFault}
 use Rattle.trace_text.specs.declared.fault.CheckFault.TheVariants.{Memory, NotATrace, Illegal, NotTheScript}
@@ -18,8 +18,8 @@ use Rattle.trace_text.specs.Grammar.{is_entry}
 use Rattle.trace_text.specs.Reading.{is_line}
 use Rattle.trace_text.specs.Read.{has_line, IsTraceOf, next_line, fits, begins_like_totals, read_from, read_of, Gives}
 use Rattle.trace_text.proofs.CallText.{position-is}
-use Rattle.trace_text.proofs.EntryLaws.{is-alone, line_of, line-is, line-again, entry-reads}
-use Rattle.trace_text.proofs.Feeds.{IsFree, is_other, both, behind, number, call, reply}
+use Rattle.trace_text.proofs.EntryLaws.{in-grammar, line_of, line-is, line-again, entry-reads}
+use Rattle.trace_text.proofs.Feeds.{IsFree, is_other, both, behind, number, call, own, wakes}
 use Rattle.trace_text.proofs.ReadLaws.{no-totals, read-whole, read-goes}
 use Rattle.trace_text.proofs.Whole.{is_feed}
 
@@ -68,18 +68,20 @@ number-first (b ∷ w) rest h = other b h
 
 has-text : (script : Script) (e : Entry) → IsSoundScript script → is_entry script e ≡ true → HasText script e
 has-text script e sound h =
-    let a = is-alone script e h in
-    let by : List ℕ = codes " by " ++ decimal e.by in
-    let answer : List ℕ = reply_text a.reply ++ by in
+    let a = in-grammar script e h in
+    let wakes_text : List ℕ = flat_map wake_text e.outcome.woken in
+    let by : List ℕ = codes " by " ++ (decimal e.by ++ wakes_text) in
+    let answer : List ℕ = own_text e.outcome.own ++ by in
     let rest : List ℕ = call_text script e.call ++ (codes " = " ++ answer) in
     record {
-      text = line_of script e.pid e.call a.reply e.by;
-      line = ap (entry_line script) (sym a.is) ∙ line-is script e.pid e.call a.reply e.by;
+      text = line_of script e.pid e.call e.outcome.own e.by e.outcome.woken;
+      line = line-is script e;
       free = both (decimal e.pid) (32 ∷ rest) (number e.pid a.pid)
           (behind 32 rest refl (both (call_text script e.call) (codes " = " ++ answer) (call script e.call sound a.call)
           (both (codes " = ") answer refl
-          (both (reply_text a.reply) by (reply a.reply a.replies)
-          (both (codes " by ") (decimal e.by) refl (number e.by (omega (arith, a.high))))))));
+          (both (own_text e.outcome.own) by (own e.outcome.own a.own)
+          (both (codes " by ") (decimal e.by ++ wakes_text) refl
+          (both (decimal e.by) wakes_text (number e.by (omega (arith, a.high))) (wakes e.outcome.woken a.woken)))))));
       first = number-first (decimal e.pid) (32 ∷ rest) (decimal_first e.pid (32 ∷ rest) a.pid);
     }
 
@@ -90,8 +92,8 @@ pub record HasTotals (h : List Entry) : Type 0 where
   free : IsFree text
 
 totals-of : (h : List Entry) → length h ≤ 4294967294 → count_by (λ e. is_fork e.call) h ≤ length h
-    → sum_by (λ e. replies_where is_not_ready_reply e.outcome) h ≤ length h
-    → sum_by (λ e. replies_where is_refused_reply e.outcome) h ≤ length h → HasTotals h
+    → sum_by (λ e. replies_where is_not_ready_reply e.outcome) h ≤ 4294967295
+    → sum_by (λ e. replies_where is_refused_reply e.outcome) h ≤ 4294967295 → HasTotals h
 unfolding entries_total processes_total not_ready_total refused_total
 totals-of h few forks waits refusals =
     let first : List ℕ = codes "totals entries " ++ decimal (length h) in
@@ -108,33 +110,54 @@ totals-of h few forks waits refusals =
           (both (codes " processes ") (decimal (1 + count_by (λ e. is_fork e.call) h)) refl
           (number (1 + count_by (λ e. is_fork e.call) h) (omega (arith, few, forks)))))
           (both (codes " notready ") (decimal (sum_by (λ e. replies_where is_not_ready_reply e.outcome) h)) refl
-          (number (sum_by (λ e. replies_where is_not_ready_reply e.outcome) h) (omega (arith, few, waits)))))
+          (number (sum_by (λ e. replies_where is_not_ready_reply e.outcome) h) waits)))
           (both (codes " refused ") (decimal (sum_by (λ e. replies_where is_refused_reply e.outcome) h)) refl
-          (number (sum_by (λ e. replies_where is_refused_reply e.outcome) h) (omega (arith, few, refusals))));
+          (number (sum_by (λ e. replies_where is_refused_reply e.outcome) h) refusals));
     }
 
--- each entry in the grammar has one reply
-one-reply : (script : Script) (test : Option Reply → Bool) (e : Entry) → is_entry script e ≡ true
-    → replies_where test e.outcome ≤ 1
-one-reply script test e h =
-    let a = is-alone script e h in
-    subst (λ (x : Entry). replies_where test x.outcome ≤ 1) a.is (of (test (Some a.reply)) refl)
-  where
-    of : {r : Reply} → (b : Bool) → test (Some r) ≡ b → replies_where test (reply_alone r) ≤ 1
-    of true t = rw t (omega arith)
-    of false t = rw t (omega arith)
+-- ---- no line has more replies than bytes
 
-replies : (script : Script) (test : Option Reply → Bool) (h : List Entry) → list_all (has_line script) h ≡ true
-    → sum_by (λ e. replies_where test e.outcome) h ≤ length h
-replies script test [] all = omega arith
-replies script test (e ∷ es) all =
-    let p = and_parts (has_line script e) (list_all (has_line script) es) all in
-    let q = and_parts (is_entry script e) (leb (length (entry_line script e)) 65537) p.0 in
+-- an outcome has the caller's reply at most, and one of each caller that is woken
+few-replies : (test : Option Reply → Bool) (outcome : Outcome)
+    → replies_where test outcome ≤ length outcome.woken + 1
+few-replies test outcome = of (test outcome.own) refl
+  where
+    of : (b : Bool) → test outcome.own ≡ b → replies_where test outcome ≤ length outcome.woken + 1
+    of true t = rw t (omega (arith, count_by-le-length (λ w. test (Some w.1)) outcome.woken))
+    of false t = rw t (omega (arith, count_by-le-length (λ w. test (Some w.1)) outcome.woken))
+
+wakes-room : (wakes : List (ℕ × Reply)) → length wakes ≤ length (flat_map wake_text wakes)
+wakes-room [] = omega arith
+wakes-room (wake ∷ wakes) =
+    omega (arith, length-append (wake_text wake) (flat_map wake_text wakes), some wake, wakes-room wakes)
+  where
+    some : (w : ℕ × Reply) → 1 ≤ length (wake_text w)
+    some w = omega arith
+
+line-room : (script : Script) (e : Entry) → length e.outcome.woken + 1 ≤ length (entry_line script e)
+line-room script e =
+    let front : List ℕ = made_text script e.pid e.call ++ codes " = " ++ own_text e.outcome.own in
+    let by : List ℕ = codes " by " ++ decimal e.by in
+    let wakes_text : List ℕ = flat_map wake_text e.outcome.woken in
+    omega (
+      arith,
+      length-append front (by ++ (wakes_text ++ 10 ∷ [])),
+      length-append by (wakes_text ++ 10 ∷ []),
+      length-append wakes_text (10 ∷ []),
+      wakes-room e.outcome.woken,
+    )
+
+replies : (script : Script) (test : Option Reply → Bool) (h : List Entry)
+    → sum_by (λ e. replies_where test e.outcome) h ≤ length (flat_map (entry_line script) h)
+replies script test [] = omega arith
+replies script test (e ∷ es) =
     omega (
       arith,
       sum_by-cons (λ x. replies_where test x.outcome) e es,
-      one-reply script test e q.0,
-      replies script test es p.1,
+      few-replies test e.outcome,
+      line-room script e,
+      length-append (entry_line script e) (flat_map (entry_line script) es),
+      replies script test es,
     )
 
 -- a line isn't empty
@@ -143,7 +166,7 @@ lines-room : (script : Script) (h : List Entry) → IsSoundScript script → lis
 lines-room script [] sound all = omega arith
 lines-room script (e ∷ es) sound all =
     let p = and_parts (has_line script e) (list_all (has_line script) es) all in
-    let q = and_parts (is_entry script e) (leb (length (entry_line script e)) 65537) p.0 in
+    let q = and_parts (is_entry script e) (leb (length (entry_line script e)) 1048577) p.0 in
     let t = has-text script e sound q.0 in
     omega (
       arith,
@@ -157,18 +180,19 @@ whole-totals : (script : Script) (h : List Entry) → IsSoundScript script → l
     → length (flat_map (entry_line script) h) ≤ 67108864 → HasTotals h
 whole-totals script h sound all within =
     totals-of h (omega (arith, lines-room script h sound all, within)) (count_by-le-length (λ e. is_fork e.call) h)
-    (replies script is_not_ready_reply h all) (replies script is_refused_reply h all)
+    (omega (arith, replies script is_not_ready_reply h, within))
+    (omega (arith, replies script is_refused_reply h, within))
 
 module _ (script : Script) (sound : IsSoundScript script) where
   again : (n line left : ℕ) (done more h : List Entry) → h ≡ done ++ more → list_all (has_line script) more ≡ true
-      → (t : HasTotals h) → length t.text ≤ 65536
+      → (t : HasTotals h) → length t.text ≤ 1048576
       → length (flat_map (entry_line script) more) + (length t.text + 1) ≤ left → length more < n
       → read_from script n line left done (flat_map (entry_line script) more ++ totals_line h) ≡ Ok h
   again n line left done [] h is all t short room fuel =
       let same : h ≡ done = is ∙ append-nil done in
       let bytes : totals_line h ≡ t.text ++ 10 ∷ [] = t.line in
       let fit : fits left t.text ≡ true =
-      and_from (leb (length t.text) 65536) (ltb (length t.text) left) (le-leb (length t.text) 65536 short)
+      and_from (leb (length t.text) 1048576) (ltb (length t.text) left) (le-leb (length t.text) 1048576 short)
       (lt-ltb (length t.text) left (omega (arith, room))) in
       let totals : is_line (totals_line done) t.text ≡ true =
       ap (λ (x : List ℕ). is_line x t.text) (ap totals_line (sym same) ∙ bytes) ∙ line-again t.text in
@@ -178,18 +202,18 @@ module _ (script : Script) (sound : IsSoundScript script) where
       ∙ ap Ok (sym same)
   again n line left done (e ∷ es) h is all t short room fuel =
       let p = and_parts (has_line script e) (list_all (has_line script) es) all in
-      let q = and_parts (is_entry script e) (leb (length (entry_line script e)) 65537) p.0 in
+      let q = and_parts (is_entry script e) (leb (length (entry_line script e)) 1048577) p.0 in
       let w = has-text script e sound q.0 in
       let rest : List ℕ = flat_map (entry_line script) es ++ totals_line h in
       let count : length (entry_line script e) ≡ length w.text + 1 =
       ap length w.line ∙ length-append w.text (10 ∷ []) ∙ omega arith in
-      let small : length w.text ≤ 65536 = omega (arith, leb-true (length (entry_line script e)) 65537 q.1, count) in
+      let small : length w.text ≤ 1048576 = omega (arith, leb-true (length (entry_line script e)) 1048577 q.1, count) in
       let total : length (entry_line script e ++ flat_map (entry_line script) es)
       ≡ length (entry_line script e) + length (flat_map (entry_line script) es) =
       length-append (entry_line script e) (flat_map (entry_line script) es) in
       let low : length w.text < left = omega (arith, room, total, count) in
       let fit : fits left w.text ≡ true =
-      and_from (leb (length w.text) 65536) (ltb (length w.text) left) (le-leb (length w.text) 65536 small)
+      and_from (leb (length w.text) 1048576) (ltb (length w.text) left) (le-leb (length w.text) 1048576 small)
       (lt-ltb (length w.text) left low) in
       let bytes : (entry_line script e ++ flat_map (entry_line script) es) ++ totals_line h ≡ w.text ++ 10 ∷ rest =
       append_assoc (entry_line script e) (flat_map (entry_line script) es) (totals_line h)

@@ -6,6 +6,8 @@ use Rattle.std.specs.List.{AllByRecursion, flat_map}
 use Rattle.pico_base.specs.declared.call.Call.{Call}
 use Rattle.pico_base.specs.declared.call.Call.TheVariants as calls
 use Rattle.pico_base.specs.declared.call.SemStep.{SemStep}
+use Rattle.pico_base.specs.declared.numbers.Name.{Name}
+use Rattle.pico_base.specs.declared.numbers.Name.TheVariants.{Proc, Msg, Sem}
 use Rattle.pico_base.specs.declared.signal.Act.{Act}
 use Rattle.pico_base.specs.declared.signal.How.{How}
 use Rattle.pico_base.specs.declared.signal.PerSignal.{PerSignal}
@@ -19,7 +21,7 @@ use Rattle.quoted_bytes.specs.Front.{strip}
 use Rattle.text_fields.proofs.Numerals.{IsWithin, front_number_again, signed_again}
 use Rattle.text_fields.proofs.Sets.{signal_again, argument_again, action_again, how_again, set_again}
 use Rattle.text_fields.proofs.Spelled.{IsStep, text_again, steps_again, values_again}
-use Rattle.trace_text.specs.Reading.{exit_at, killed_at, handled_at, kill_at, sigaction_at, sigprocmask_at, child_at, waitpid_at, options_at, msgget_key_at, msgget_at, object_at, msgsnd_at, msgrcv_at, msgset_at, queue_command_at, msgctl_at, semget_key_at, semget_private_at, semget_at, semop_at, semaphore_at, setval_at, setall_at, set_command_at, semctl_at}
+use Rattle.trace_text.specs.Reading.{exit_at, killed_at, handled_at, kill_at, sigaction_at, sigprocmask_at, child_at, waitpid_at, options_at, msgget_key_at, msgget_at, object_at, msgsnd_at, msgrcv_at, msgset_at, queue_command_at, msgctl_at, semget_key_at, semget_private_at, semget_at, semop_at, semaphore_at, setval_at, setall_at, set_command_at, semctl_at, withdrawal_from_at, withdrawal_at}
 use Rattle.trace_text.proofs.Ranges.{IsTextInRange, no-word}
 
 -- what stands behind a call
@@ -388,3 +390,35 @@ module _ (more : List ℕ) where
         → semctl_at (decimal id ++ (codes " setall " ++ (values_text (v ∷ vs) ++ tail more)))
         ≡ Some (calls.SemSetAll id (v ∷ vs), tail more)
     set-all-again v vs all = named _ ∙ setall-chosen id (values_text (v ∷ vs) ++ tail more) ∙ setall-again id v vs all
+
+  -- ---- withdrawals
+
+  withdrawal-again : (name : ℕ → Name) (n : ℕ) → n ≤ 4294967295
+      → withdrawal_from_at name (decimal n ++ tail more) ≡ Some (calls.Withdraw (name n), tail more)
+  unfolding withdrawal_from_at
+  withdrawal-again name n h =
+      rw (front_number_again 4294967295 n (tail more) h (omega arith) (blank-ends (61 ∷ more))) refl
+
+  queue-chosen : (rest : List ℕ) → withdrawal_at (codes "msg " ++ rest) ≡ withdrawal_from_at Msg rest
+  unfolding withdrawal_at strip
+  queue-chosen rest = refl
+
+  semaphores-chosen : (rest : List ℕ) → withdrawal_at (codes "sem " ++ rest) ≡ withdrawal_from_at Sem rest
+  unfolding withdrawal_at strip
+  semaphores-chosen rest = refl
+
+  process-chosen : (rest : List ℕ) → withdrawal_at (codes "proc " ++ rest) ≡ withdrawal_from_at Proc rest
+  unfolding withdrawal_at strip
+  process-chosen rest = refl
+
+  pub from-queue-again : (id : ℕ) → id ≤ 4294967295
+      → withdrawal_at (codes "msg " ++ (decimal id ++ tail more)) ≡ Some (calls.Withdraw (Msg id), tail more)
+  from-queue-again id h = queue-chosen (decimal id ++ tail more) ∙ withdrawal-again Msg id h
+
+  pub from-set-again : (id : ℕ) → id ≤ 4294967295
+      → withdrawal_at (codes "sem " ++ (decimal id ++ tail more)) ≡ Some (calls.Withdraw (Sem id), tail more)
+  from-set-again id h = semaphores-chosen (decimal id ++ tail more) ∙ withdrawal-again Sem id h
+
+  pub from-process-again : (pid : ℕ) → pid ≤ 4294967295
+      → withdrawal_at (codes "proc " ++ (decimal pid ++ tail more)) ≡ Some (calls.Withdraw (Proc pid), tail more)
+  from-process-again pid h = process-chosen (decimal pid ++ tail more) ∙ withdrawal-again Proc pid h

@@ -8,6 +8,7 @@ use Rattle.std.proofs.lemmas.List.{take_at, drop_at, length-append}
 use Rattle.std.proofs.lemmas.Slice.Eq.{bytes_eq-Decides}
 use Rattle.pico_base.specs.declared.call.Call.{Call}
 use Rattle.pico_base.specs.declared.call.Call.TheVariants as calls
+use Rattle.pico_base.specs.declared.numbers.Name.TheVariants.{Proc, Msg, Sem}
 use Rattle.pico_base.specs.declared.script.Block.{Block}
 use Rattle.pico_base.specs.declared.script.Script.{Script}
 use Rattle.kernel_model.specs.Fitting.{block_at}
@@ -20,9 +21,9 @@ use Rattle.text_fields.specs.Fields.{word_length, word_at}
 use Rattle.text_fields.proofs.Spelled.{IsStep}
 use Rattle.trace_text.specs.Grammar.{is_call, is_text, is_block}
 use Rattle.call_words.specs.Verbs.{verb_of}
-use Rattle.trace_text.specs.Reading.{block_named, fork_at, exit_at, killed_at, handled_at, kill_at, sigaction_at, sigprocmask_at, waitpid_at, msgget_at, msgsnd_at, msgrcv_at, msgctl_at, semget_at, semop_at, semctl_at, end_by_signal_at, call_at}
+use Rattle.trace_text.specs.Reading.{block_named, fork_at, exit_at, killed_at, handled_at, kill_at, sigaction_at, sigprocmask_at, waitpid_at, msgget_at, msgsnd_at, msgrcv_at, msgctl_at, semget_at, semop_at, semctl_at, withdrawal_at, no_call_at, call_at}
 use Rattle.trace_text.proofs.Ranges.{u32-bound, u16-bound, type-within, step-within, all-from, text-in-range}
-use Rattle.trace_text.proofs.CallLaws.{tail, exit-again, killed-again, handled-again, kill-again, sigaction-again, sigprocmask-again, wait-any-again, wait-again, msgget-private-again, msgget-again, msgsnd-again, msgrcv-again, msgstat-again, msgrmid-again, msgqbytes-again, semget-private-again, semget-again, semop-again, getall-again, removal-again, getval-again, getpid-again, getncnt-again, getzcnt-again, set-value-again, set-all-again}
+use Rattle.trace_text.proofs.CallLaws.{tail, exit-again, killed-again, handled-again, kill-again, sigaction-again, sigprocmask-again, wait-any-again, wait-again, msgget-private-again, msgget-again, msgsnd-again, msgrcv-again, msgstat-again, msgrmid-again, msgqbytes-again, semget-private-again, semget-again, semop-again, getall-again, removal-again, getval-again, getpid-again, getncnt-again, getzcnt-again, set-value-again, set-all-again, from-queue-again, from-set-again, from-process-again}
 
 -- ---- words
 
@@ -71,8 +72,12 @@ module _ (script : Script) (rest : List ℕ) where
   at-exit = rw (word-ends (codes "exit") rest refl) refl
 
   at-killed : call_at script (codes "killed " ++ rest) ≡ killed_at rest
-  unfolding call_at verb_of end_by_signal_at strip
+  unfolding call_at verb_of no_call_at strip
   at-killed = rw (word-ends (codes "killed") rest refl) refl
+
+  at-withdraw : call_at script (codes "withdraw " ++ rest) ≡ withdrawal_at rest
+  unfolding call_at verb_of no_call_at strip
+  at-withdraw = rw (word-ends (codes "withdraw") rest refl) refl
 
   at-getpid : call_at script (codes "getpid" ++ 32 ∷ rest) ≡ Some (calls.GetPid, 32 ∷ rest)
   unfolding call_at verb_of strip
@@ -365,4 +370,9 @@ call-again script (calls.SemRmid id) more sound h =
     let front : call_text script (calls.SemRmid id) ++ tail more ≡ codes "semctl "
     ++ (decimal id ++ (codes " rmid" ++ tail more)) = simp append_assoc in
     ap (call_at script) front ∙ at-semctl script _ ∙ removal-again more id (u32-bound id h)
-call-again script (calls.Withdraw name) more sound h = absurd (cc)
+call-again script (calls.Withdraw (Proc pid)) more sound h =
+    at-withdraw script (codes "proc " ++ (decimal pid ++ tail more)) ∙ from-process-again more pid (u32-bound pid h)
+call-again script (calls.Withdraw (Msg id)) more sound h =
+    at-withdraw script (codes "msg " ++ (decimal id ++ tail more)) ∙ from-queue-again more id (u32-bound id h)
+call-again script (calls.Withdraw (Sem id)) more sound h =
+    at-withdraw script (codes "sem " ++ (decimal id ++ tail more)) ∙ from-set-again more id (u32-bound id h)

@@ -1,8 +1,9 @@
 -- A line is read exactly where it is the text of an entry in the grammar, as that entry.
-use Rattle.std.proofs.Common.{◌≡◌, ℕ, ◌≤◌, true, false, ◌&&◌, leb, eqb, List, [], ◌∷◌, ◌++◌, length, Option, Some, None, refl, sym, ap, ◌∙◌, append_assoc, arith}
+use Rattle.std.proofs.Common.{◌≡◌, ℕ, ◌≤◌, true, false, ◌&&◌, leb, List, [], ◌∷◌, ◌++◌, length, Option, Some, None, refl, sym, ap, subst, ◌∙◌, append_assoc, arith}
 use Rattle.std.specs.Prelude.{codes, decimal, bytes_eq}
+use Rattle.std.specs.List.{AllByRecursion, flat_map, list_all}
 use Rattle.std.specs.Option.{option_map_or}
-use Rattle.std.proofs.lemmas.Bool.{and_parts, leb-true, le-leb, eqb-true}
+use Rattle.std.proofs.lemmas.Bool.{and_parts, leb-true, le-leb}
 use Rattle.std.proofs.lemmas.List.{append-nil}
 use Rattle.std.proofs.lemmas.Option.{same_Some}
 use Rattle.std.proofs.lemmas.Slice.Eq.{bytes_eq-Decides}
@@ -11,40 +12,40 @@ use Rattle.pico_base.specs.declared.reply.Entry.{Entry}
 use Rattle.pico_base.specs.declared.reply.Outcome.{Outcome}
 use Rattle.pico_base.specs.declared.reply.Reply.{Reply}
 use Rattle.pico_base.specs.declared.script.Script.{Script}
-use Rattle.kernel_model.specs.Effect.{reply_alone}
 use Rattle.kernel_model.specs.Numbers.{is_u32, is_between}
 use Rattle.kernel_model.specs.Script.{IsSoundScript}
-use Rattle.kernel_model.specs.Trace.{call_text, reply_text, entry_line}
-use Rattle.text_fields.specs.Fields.{digit_at, number_at}
+use Rattle.kernel_model.specs.Trace.{call_text, reply_text, own_text, wake_text, entry_line}
+use Rattle.text_fields.specs.Fields.{digit_at, number_at, named_at, many, set_at}
 use Rattle.text_fields.proofs.Chains.{bind_some, chosen}
 use Rattle.quoted_bytes.proofs.Strips.{strip_takes, strip_again}
 use Rattle.quoted_bytes.specs.Front.{strip}
+use Rattle.text_fields.proofs.Many.{many-again, parts-room}
 use Rattle.text_fields.proofs.Numerals.{front_number_again}
-use Rattle.trace_text.specs.Grammar.{is_call, is_reply, is_own, is_outcome, is_entry}
-use Rattle.trace_text.specs.Reading.{made_at, by_at, entry_of, replied_at, entry_at, is_line, entry_if, entry_in}
-use Rattle.trace_text.proofs.Ranges.{u32-bound}
+use Rattle.trace_text.specs.Grammar.{is_call, is_reply, is_own, is_wake, is_outcome, is_entry}
+use Rattle.trace_text.specs.Reading.{word_reply_at, reply_at, made_at, own_at, by_at, wake_at, wakes_at, entry_of, replied_at, entry_at, is_line, entry_if, entry_in}
+use Rattle.trace_text.proofs.Ranges.{u32-bound, all-from}
 use Rattle.trace_text.proofs.CallText.{call-again}
-use Rattle.trace_text.proofs.ReplyLaws.{reply-again}
+use Rattle.trace_text.proofs.ReplyLaws.{EndsReply, by-ends, wakes-end, nothing-ends, reply-again}
 
 -- a line without its line feed
-abbrev pub line_of : Script → ℕ → Call → Reply → ℕ → List ℕ
-line_of script pid call reply node =
-    decimal pid ++ 32 ∷ (call_text script call ++ (codes " = " ++ (reply_text reply ++ (codes " by " ++ decimal node))))
+abbrev pub line_of : Script → ℕ → Call → Option Reply → ℕ → List (ℕ × Reply) → List ℕ
+line_of script pid call own node woken =
+    decimal pid ++ 32 ∷ (call_text script call
+    ++ (codes " = " ++ (own_text own ++ (codes " by " ++ (decimal node ++ flat_map wake_text woken)))))
 
 blank-ends : (rest : List ℕ) → digit_at (32 ∷ rest) ≡ None
 unfolding digit_at
 blank-ends rest = refl
 
-nothing-ends : digit_at [] ≡ None
-unfolding digit_at
-nothing-ends = refl
-
-by-again : (node : ℕ) → 1 ≤ node → node ≤ 32 → by_at (codes " by " ++ decimal node) ≡ Some node
+by-again : (node : ℕ) (rest : List ℕ) → 1 ≤ node → node ≤ 32 → digit_at rest ≡ None
+    → by_at (codes " by " ++ (decimal node ++ rest)) ≡ Some (node, rest)
 unfolding by_at
-by-again node low high =
-    let whole : decimal node ++ [] ≡ decimal node = append-nil (decimal node) in
-    let number = ap (number_at 32) (sym whole) ∙ front_number_again 32 node [] high (omega arith) nothing-ends in
-    rw (strip_again (codes " by ") (decimal node), number, le-leb 1 node low) refl
+by-again node rest low high ends =
+    rw (
+      strip_again (codes " by ") (decimal node ++ rest),
+      front_number_again 32 node rest high (omega arith) ends,
+      le-leb 1 node low,
+    ) refl
 
 made-again : (script : Script) (pid : ℕ) (call : Call) (more : List ℕ) → IsSoundScript script → pid ≤ 4294967295
     → is_call script call ≡ true
@@ -59,75 +60,116 @@ made-again script pid call more sound small h =
       call-again script call more sound h,
     ) refl
 
-replied-again : (pid : ℕ) (call : Call) (reply : Reply) (node : ℕ) → is_reply reply ≡ true → 1 ≤ node → node ≤ 32
-    → replied_at (pid, call) (codes " = " ++ (reply_text reply ++ (codes " by " ++ decimal node)))
-    ≡ Some (entry_of (pid, call) reply node)
-replied-again pid call reply node h low high =
-    let rest : List ℕ = reply_text reply ++ (codes " by " ++ decimal node) in
-    rw (strip_again (codes " = ") rest, reply-again (121 ∷ 32 ∷ decimal node) reply h, by-again node low high) refl
+-- ---- what the call came to
 
-entry-again : (script : Script) (pid : ℕ) (call : Call) (reply : Reply) (node : ℕ) → IsSoundScript script
-    → pid ≤ 4294967295 → is_call script call ≡ true
-    → is_reply reply ≡ true → 1 ≤ node → node ≤ 32
-    → entry_at script (line_of script pid call reply node) ≡ Some (entry_of (pid, call) reply node)
+-- no reply begins like `parked`
+no-reply : (rest : List ℕ) → reply_at (codes "parked" ++ rest) ≡ None
+unfolding reply_at word_reply_at number_at digit_at strip named_at set_at
+no-reply rest = refl
+
+own-again : (own : Option Reply) (rest : List ℕ) → is_own own ≡ true → EndsReply rest
+    → own_at (own_text own ++ rest) ≡ Some (own, rest)
+unfolding own_at
+own-again None rest h ends = rw (no-reply rest, strip_again (codes "parked") rest) refl
+own-again (Some reply) rest h ends = rw (reply-again rest ends reply h) refl
+
+wake-again : (wake : ℕ × Reply) (rest : List ℕ) → is_wake wake ≡ true → EndsReply rest
+    → wake_at (wake_text wake ++ rest) ≡ Some (wake, rest)
+unfolding wake_at
+wake-again wake rest h ends =
+    let p = and_parts (is_u32 wake.0) (is_reply wake.1) h in
+    let reply : List ℕ = reply_text wake.1 ++ rest in
+    let front : wake_text wake ++ rest ≡ codes " wakes " ++ (decimal wake.0 ++ 32 ∷ reply) =
+    ap (λ (w : List ℕ). codes " wakes " ++ w) (append_assoc (decimal wake.0) (32 ∷ reply_text wake.1) rest) in
+    rw (
+      front,
+      strip_again (codes " wakes ") (decimal wake.0 ++ 32 ∷ reply),
+      front_number_again 4294967295 wake.0 (32 ∷ reply) (u32-bound wake.0 p.0) (omega arith) (blank-ends reply),
+      strip_again (codes " ") reply,
+      reply-again rest ends wake.1 p.1,
+    ) refl
+
+no-wake : wake_at [] ≡ None
+unfolding wake_at strip
+no-wake = refl
+
+-- behind a reply stand the callers that are woken, or nothing
+wakes-or-nothing : (wakes : List (ℕ × Reply)) → EndsReply (flat_map wake_text wakes ++ [])
+wakes-or-nothing [] = nothing-ends
+wakes-or-nothing (wake ∷ wakes) = wakes-end _
+
+wakes-again : (wakes : List (ℕ × Reply)) → list_all is_wake wakes ≡ true
+    → wakes_at (flat_map wake_text wakes) ≡ (wakes, [])
+wakes-again wakes h =
+    let bytes : List ℕ = flat_map wake_text wakes in
+    let all : AllByRecursion (λ wake. is_wake wake ≡ true) wakes =
+    all-from is_wake (λ wake. is_wake wake ≡ true) (λ wake k. k) wakes h in
+    let whole : bytes ++ [] ≡ bytes = append-nil bytes in
+    let room : length wakes ≤ length (bytes ++ []) =
+    parts-room wake_at wake_text (λ wake. is_wake wake ≡ true) EndsReply wakes [] (λ wake _. omega arith) all in
+    ap (many wake_at (length bytes)) (sym whole)
+    ∙ many-again wake_at wake_text (λ wake. is_wake wake ≡ true) EndsReply (length bytes) wakes [] wake-again
+    wakes-or-nothing no-wake all (omega (arith, room, ap length whole))
+
+replied-again : (pid : ℕ) (call : Call) (own : Option Reply) (node : ℕ) (woken : List (ℕ × Reply))
+    → is_own own ≡ true → list_all is_wake woken ≡ true → 1 ≤ node → node ≤ 32
+    → replied_at (pid, call)
+    (codes " = " ++ (own_text own ++ (codes " by " ++ (decimal node ++ flat_map wake_text woken))))
+    ≡ Some (entry_of (pid, call) own node woken)
+replied-again pid call own node woken o w low high =
+    let wakes : List ℕ = flat_map wake_text woken in
+    let by : List ℕ = codes " by " ++ (decimal node ++ wakes) in
+    let ends : EndsReply wakes = subst EndsReply (append-nil wakes) (wakes-or-nothing woken) in
+    rw (
+      strip_again (codes " = ") (own_text own ++ by),
+      own-again own by o (by-ends (121 ∷ 32 ∷ (decimal node ++ wakes))),
+      by-again node wakes low high ends.digit,
+      wakes-again woken w,
+    ) refl
+
+-- ---- lines
+
+entry-again : (script : Script) (pid : ℕ) (call : Call) (own : Option Reply) (node : ℕ) (woken : List (ℕ × Reply))
+    → IsSoundScript script → pid ≤ 4294967295 → is_call script call ≡ true → is_own own ≡ true
+    → list_all is_wake woken ≡ true → 1 ≤ node → node ≤ 32
+    → entry_at script (line_of script pid call own node woken) ≡ Some (entry_of (pid, call) own node woken)
 unfolding entry_at
-entry-again script pid call reply node sound small c r low high =
-    rw (made-again script pid call (32 ∷ (reply_text reply ++ (codes " by " ++ decimal node))) sound small c)
-    (replied-again pid call reply node r low high)
+entry-again script pid call own node woken sound small c o w low high =
+    let by : List ℕ = codes " by " ++ (decimal node ++ flat_map wake_text woken) in
+    rw (made-again script pid call (32 ∷ (own_text own ++ by)) sound small c)
+    (replied-again pid call own node woken o w low high)
 
--- the text of an entry whose caller has its reply, and that wakes nobody
-pub line-is : (script : Script) (pid : ℕ) (call : Call) (reply : Reply) (node : ℕ)
-    → entry_line script (entry_of (pid, call) reply node) ≡ line_of script pid call reply node ++ 10 ∷ []
-line-is script pid call reply node = simp append_assoc
+-- the text of an entry
+pub line-is : (script : Script) (e : Entry)
+    → entry_line script e ≡ line_of script e.pid e.call e.outcome.own e.by e.outcome.woken ++ 10 ∷ []
+line-is script e = simp append_assoc
 
-module _ (script : Script) where
-  -- what is in the grammar has a caller's reply alone
-  pub record IsAlone (e : Entry) : Type 0 where
-    pub reply : Reply
-    pub is : entry_of (e.pid, e.call) reply e.by ≡ e
-    pub pid : e.pid ≤ 4294967295
-    pub call : is_call script e.call ≡ true
-    pub replies : is_reply reply ≡ true
-    pub low : 1 ≤ e.by
-    pub high : e.by ≤ 32
+-- what an entry in the grammar has
+pub record IsInGrammar (script : Script) (e : Entry) : Type 0 where
+  pub pid : e.pid ≤ 4294967295
+  pub call : is_call script e.call ≡ true
+  pub outcome : is_outcome e.outcome ≡ true
+  pub own : is_own e.outcome.own ≡ true
+  pub woken : list_all is_wake e.outcome.woken ≡ true
+  pub low : 1 ≤ e.by
+  pub high : e.by ≤ 32
 
-  pub is-alone : (e : Entry) → is_entry script e ≡ true → IsAlone e
-  is-alone e h =
-      let p = and_parts (is_u32 e.pid) (is_call script e.call && (is_outcome e.outcome && is_between 1 32 e.by)) h in
-      let q = and_parts (is_call script e.call) (is_outcome e.outcome && is_between 1 32 e.by) p.1 in
-      let r = and_parts (is_outcome e.outcome) (is_between 1 32 e.by) q.1 in
-      let n = and_parts (leb 1 e.by) (leb e.by 32) r.1 in
-      of e.outcome refl r.0 (u32-bound e.pid p.0) q.0 (leb-true 1 e.by n.0) (leb-true e.by 32 n.1)
-    where
-      of : (o : Outcome) → e.outcome ≡ o → is_outcome o ≡ true → e.pid ≤ 4294967295 → is_call script e.call ≡ true
-          → 1 ≤ e.by → e.by ≤ 32 → IsAlone e
-      of o same out pid call low high = own o.own refl o.woken refl
-        where
-          own : (x : Option Reply) → o.own ≡ x → (ws : List (ℕ × Reply)) → o.woken ≡ ws → IsAlone e
-          own None at ws woken = let no : is_own o.own ≡ false = rw at refl in let p =
-              and_parts (is_own o.own) (eqb (length o.woken) 0) out in absurd (cc)
-          own (Some reply) at (w ∷ ws) woken =
-              let p = and_parts (is_own o.own) (eqb (length o.woken) 0) out in
-              let none : length o.woken ≡ 0 = eqb-true (length o.woken) 0 p.1 in
-              absurd (omega (arith, none, ap length woken))
-          own (Some reply) at [] woken =
-              let p = and_parts (is_own o.own) (eqb (length o.woken) 0) out in
-              let r : is_reply reply ≡ true = sym (ap is_own at) ∙ p.0 in
-              let with_own : Option Reply → Outcome = λ x. record { own = x; woken = o.woken } in
-              let with_woken : List (ℕ × Reply) → Outcome = λ ws. record { own = Some reply; woken = ws } in
-              let o_is : o ≡ reply_alone reply = ap with_own at ∙ ap with_woken woken in
-              let out_is : reply_alone reply ≡ e.outcome = sym (same ∙ o_is) in
-              record {
-                reply = reply;
-                is =
-                    ap (λ (x : Outcome). record { pid = e.pid; call = e.call; outcome = x; by = e.by }) out_is;
-                pid =
-                    pid;
-                call = call;
-                replies = r;
-                low = low;
-                high = high;
-              }
+pub in-grammar : (script : Script) (e : Entry) → is_entry script e ≡ true → IsInGrammar script e
+in-grammar script e h =
+    let p = and_parts (is_u32 e.pid) (is_call script e.call && (is_outcome e.outcome && is_between 1 32 e.by)) h in
+    let q = and_parts (is_call script e.call) (is_outcome e.outcome && is_between 1 32 e.by) p.1 in
+    let r = and_parts (is_outcome e.outcome) (is_between 1 32 e.by) q.1 in
+    let o = and_parts (is_own e.outcome.own) (list_all is_wake e.outcome.woken) r.0 in
+    let n = and_parts (leb 1 e.by) (leb e.by 32) r.1 in
+    record {
+      pid = u32-bound e.pid p.0;
+      call = q.0;
+      outcome = r.0;
+      own = o.0;
+      woken = o.1;
+      low = leb-true 1 e.by n.0;
+      high = leb-true e.by 32 n.1;
+    }
 
 -- what passes the test for a line is that line and a line feed
 pub line-tested : (printed line : List ℕ) → is_line printed line ≡ true → printed ≡ line ++ 10 ∷ []
@@ -173,12 +215,12 @@ pub entry-reads : (script : Script) (line : List ℕ) (e : Entry) → IsSoundScr
     → entry_line script e ≡ line ++ 10 ∷ [] → entry_in script line ≡ Some e
 unfolding entry_in
 entry-reads script line e sound h text =
-    let a = is-alone script e h in
-    let whole : line ≡ line_of script e.pid e.call a.reply e.by =
-    same-front line (line_of script e.pid e.call a.reply e.by) 10
-    (sym text ∙ ap (entry_line script) (sym a.is) ∙ line-is script e.pid e.call a.reply e.by) in
+    let a = in-grammar script e h in
+    let printed : List ℕ = line_of script e.pid e.call e.outcome.own e.by e.outcome.woken in
+    let whole : line ≡ printed = same-front line printed 10 (sym text ∙ line-is script e) in
+    let o : Outcome = e.outcome in
     let read : entry_at script line ≡ Some e =
-    ap (entry_at script) whole ∙ entry-again script e.pid e.call a.reply e.by sound a.pid a.call a.replies a.low a.high
-    ∙ ap Some a.is in
+    ap (entry_at script) whole
+    ∙ entry-again script e.pid e.call o.own e.by o.woken sound a.pid a.call a.own a.woken a.low a.high in
     let test : is_line (entry_line script e) line ≡ true = ap (λ (x : List ℕ). is_line x line) text ∙ line-again line in
     rw (read, h, test) refl

@@ -8,6 +8,7 @@ use Rattle.std.proofs.lemmas.Bool.{and_parts, and_from, leb-true}
 use Rattle.pico_base.specs.declared.call.Call.{Call}
 use Rattle.pico_base.specs.declared.call.Call.TheVariants as calls
 use Rattle.pico_base.specs.declared.call.SemStep.{SemStep}
+use Rattle.pico_base.specs.declared.numbers.Name.TheVariants.{Proc, Msg, Sem}
 use Rattle.pico_base.specs.declared.reply.Reply.{Reply}
 use Rattle.pico_base.specs.declared.reply.Reply.TheVariants as replies
 use Rattle.pico_base.specs.declared.reply.Ending.{Ending}
@@ -30,10 +31,10 @@ use Rattle.kernel_model.specs.Fitting.{block_at}
 use Rattle.kernel_model.specs.Numbers.{is_u16, is_u32, is_byte}
 use Rattle.kernel_model.specs.Script.{IsSoundScript, is_name_byte, is_type, is_step_in_range, is_place}
 use Rattle.kernel_model.specs.Texts.{is_plain, is_letter_or_digit, hex_digit, escape, quoted_text, is_repeated, message_text}
-use Rattle.kernel_model.specs.Trace.{signal_name, signal_argument, action_name, how_name, error_name, signals_text, set_text, word, create_words, step_text, values_text, name_of_block, queue_words, call_text, ending_text, reply_text}
+use Rattle.kernel_model.specs.Trace.{signal_name, signal_argument, action_name, how_name, error_name, signals_text, set_text, word, create_words, step_text, values_text, name_of_block, queue_words, call_text, ending_text, reply_text, own_text, wake_text}
 use Rattle.text_fields.proofs.Numerals.{AreDigits, IsWithin, decimal-digits}
 use Rattle.text_fields.proofs.Spelled.{IsStep}
-use Rattle.trace_text.specs.Grammar.{is_call, is_reply, is_ending, is_text}
+use Rattle.trace_text.specs.Grammar.{is_call, is_reply, is_ending, is_text, is_own, is_wake}
 use Rattle.trace_text.proofs.Ranges.{u32-bound, u16-bound, byte-bound, type-within, step-within, all-from}
 use Rattle.trace_text.proofs.CallText.{name-at, name-bytes}
 
@@ -372,4 +373,22 @@ call script (calls.SemSetAll id vs) sound h =
     (on (codes "semctl ") id (codes " setall ") refl p.0 refl)
     (values 65535 (omega arith) vs (all-from is_u16 (λ n. n ≤ 65535) u16-bound vs q.1))
 call script (calls.SemRmid id) sound h = on (codes "semctl ") id (codes " rmid") refl h refl
-call script (calls.Withdraw name) sound h = absurd (cc)
+call script (calls.Withdraw (Proc pid)) sound h = named (codes "withdraw proc ") pid refl (u32-bound pid h)
+call script (calls.Withdraw (Msg id)) sound h = named (codes "withdraw msg ") id refl (u32-bound id h)
+call script (calls.Withdraw (Sem id)) sound h = named (codes "withdraw sem ") id refl (u32-bound id h)
+
+-- what a call came to
+
+pub own : (o : Option Reply) → is_own o ≡ true → IsFree (own_text o)
+own None h = refl
+own (Some r) h = reply r h
+
+wake : (w : ℕ × Reply) → is_wake w ≡ true → IsFree (wake_text w)
+wake w h =
+    let p = and_parts (is_u32 w.0) (is_reply w.1) h in
+    both (codes " wakes " ++ decimal w.0) (32 ∷ reply_text w.1) (named (codes " wakes ") w.0 refl (u32-bound w.0 p.0))
+    (behind 32 (reply_text w.1) refl (reply w.1 p.1))
+
+pub wakes : (ws : List (ℕ × Reply)) → list_all is_wake ws ≡ true → IsFree (flat_map wake_text ws)
+wakes ws h =
+    each wake_text (λ w. is_wake w ≡ true) wake ws (all-from is_wake (λ w. is_wake w ≡ true) (λ w k. k) ws h)

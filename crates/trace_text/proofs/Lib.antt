@@ -6,6 +6,7 @@ pub mod EntryLaws
 pub mod Digits
 pub mod Escapes
 pub mod Feeds
+pub mod Joined
 pub mod Members
 pub mod ReadLaws
 pub mod Ranges

@@ -80,4 +80,4 @@ ended-is (b ∷ bytes) = grind arith
 
 -- a line that fits is shorter than what is left
 pub fits-room : (left : ℕ) (line : List ℕ) → fits left line ≡ true → length line < left
-fits-room left line h = ltb-true (length line) left (and_parts (leb (length line) 65536) (ltb (length line) left) h).1
+fits-room left line h = ltb-true (length line) left (and_parts (leb (length line) 1048576) (ltb (length line) left) h).1

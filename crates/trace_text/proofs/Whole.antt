@@ -44,7 +44,7 @@ pub record Rests (script : Script) (left : ℕ) (done : List Entry) (bytes : Lis
   pub text : bytes ≡ flat_map (entry_line script) more ++ totals_line h
   pub lines : list_all (has_line script) more ≡ true
   pub within : length bytes ≤ left
-  pub short : length (totals_line h) ≤ 65537
+  pub short : length (totals_line h) ≤ 1048577
 
 module _ (script : Script) where
   pub takes : (n line left : ℕ) (done : List Entry) (bytes : List ℕ) (h : List Entry)
@@ -71,9 +71,9 @@ module _ (script : Script) where
           let whole : bytes ≡ text ++ 10 ∷ [] =
           split bytes text after there ∙ ap (λ (x : List ℕ). text ++ 10 ∷ x) (ended-empty after ended) in
           let line_is : totals_line done ≡ text ++ 10 ∷ [] = line-tested (totals_line done) text totals in
-          let f = and_parts (leb (length text) 65536) (ltb (length text) left) fit in
+          let f = and_parts (leb (length text) 1048576) (ltb (length text) left) fit in
           let room : length text < left = ltb-true (length text) left f.1 in
-          let small : length text ≤ 65536 = leb-true (length text) 65536 f.0 in
+          let small : length text ≤ 1048576 = leb-true (length text) 1048576 f.0 in
           let count : length (text ++ 10 ∷ []) ≡ length text + 1 = length-append text (10 ∷ []) ∙ omega arith in
           record {
             more = [];
@@ -88,16 +88,16 @@ module _ (script : Script) where
           let r = again (left - (length text + 1)) (done ++ x ∷ []) after e in
           let t = entry-takes script text x entry in
           let whole : bytes ≡ text ++ 10 ∷ after = split bytes text after there in
-          let f = and_parts (leb (length text) 65536) (ltb (length text) left) fit in
+          let f = and_parts (leb (length text) 1048576) (ltb (length text) left) fit in
           let room : length text < left = ltb-true (length text) left f.1 in
-          let small : length text ≤ 65536 = leb-true (length text) 65536 f.0 in
+          let small : length text ≤ 1048576 = leb-true (length text) 1048576 f.0 in
           let count : length (text ++ 10 ∷ []) ≡ length text + 1 = length-append text (10 ∷ []) ∙ omega arith in
           let total : length (text ++ 10 ∷ after) ≡ length text + (length after + 1) =
           length-append text (10 ∷ after) ∙ omega arith in
-          let short_line : length (entry_line script x) ≤ 65537 = omega (arith, ap length t.1, count) in
+          let short_line : length (entry_line script x) ≤ 1048577 = omega (arith, ap length t.1, count) in
           let good : has_line script x ≡ true =
-          and_from (is_entry script x) (leb (length (entry_line script x)) 65537) t.0
-          (le-leb (length (entry_line script x)) 65537 short_line) in
+          and_from (is_entry script x) (leb (length (entry_line script x)) 1048577) t.0
+          (le-leb (length (entry_line script x)) 1048577 short_line) in
           record {
             more = x ∷ r.more;
             is = r.is ∙ append_assoc done (x ∷ []) r.more;

@@ -1,8 +1,10 @@
 -- The grammar of a trace: which entries have a line. A line is in the grammar exactly where it is such an entry's text.
-use Rattle.std.specs.Prelude.{ℕ, Bool, true, false, not, ◌&&◌, ◌||◌, nat_eq, nat_le, List, length, Option, Some, None, is_some}
+use Rattle.std.specs.Prelude.{ℕ, Bool, true, not, ◌&&◌, ◌||◌, nat_le, List, length, Option, Some, None, is_some}
 use Rattle.std.specs.List.{list_all}
 use Rattle.pico_base.specs.declared.call.Call.{Call}
 use Rattle.pico_base.specs.declared.call.Call.TheVariants as calls
+use Rattle.pico_base.specs.declared.numbers.Name.{Name}
+use Rattle.pico_base.specs.declared.numbers.Name.TheVariants.{Proc, Msg, Sem}
 use Rattle.pico_base.specs.declared.reply.Reply.{Reply}
 use Rattle.pico_base.specs.declared.reply.Reply.TheVariants as replies
 use Rattle.pico_base.specs.declared.reply.Ending.{Ending}
@@ -23,8 +25,13 @@ is_text text = list_all is_byte text && (not (is_repeated text) || nat_le (lengt
 abbrev pub is_block : Script → ℕ → Bool
 is_block script k = nat_le 1 k && (nat_le k 32 && is_some (block_at script k))
 
--- A call with arguments in their ranges. A process number may be 0, since a variable may hold 0. No line has a
--- withdrawal, since nobody waits.
+-- where a process stops to wait: any number of four bytes, as a call may name it
+abbrev pub is_withdrawal : Name → Bool
+is_withdrawal (Proc pid) = is_u32 pid
+is_withdrawal (Msg id) = is_u32 id
+is_withdrawal (Sem id) = is_u32 id
+
+-- A call with arguments in their ranges. A process number may be 0, since a variable may hold 0.
 abbrev pub is_call : Script → Call → Bool
 is_call script (calls.Fork block) = is_block script block
 is_call script (calls.Exit status) = is_u16 status
@@ -52,7 +59,7 @@ is_call script (calls.SemSetVal id num value) = is_place id num && is_u16 value
 is_call script (calls.SemGetAll id) = is_u32 id
 is_call script (calls.SemSetAll id values) = is_u32 id && (nat_le 1 (length values) && list_all is_u16 values)
 is_call script (calls.SemRmid id) = is_u32 id
-is_call script (calls.Withdraw name) = false
+is_call script (calls.Withdraw name) = is_withdrawal name
 
 abbrev pub is_ending : Ending → Bool
 is_ending (Exited status) = is_byte status
@@ -69,13 +76,18 @@ is_reply (replies.All values) = nat_le 1 (length values) && list_all is_u32 valu
 is_reply replies.Ended = true
 is_reply (replies.Fail e) = true
 
+-- a call that parks has no reply yet
 abbrev pub is_own : Option Reply → Bool
-is_own None = false
+is_own None = true
 is_own (Some reply) = is_reply reply
 
--- the caller has its reply, and wakes nobody
+-- a caller that is woken, and its reply
+abbrev pub is_wake : ℕ × Reply → Bool
+is_wake wake = is_u32 wake.0 && is_reply wake.1
+
+-- No reply is tied to its call: which outcome a call has is the kernel's to say.
 abbrev pub is_outcome : Outcome → Bool
-is_outcome outcome = is_own outcome.own && nat_eq (length outcome.woken) 0
+is_outcome outcome = is_own outcome.own && list_all is_wake outcome.woken
 
 -- an entry with a line: its node is one of 1 to 32
 abbrev pub is_entry : Script → Entry → Bool

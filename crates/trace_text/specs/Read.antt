@@ -10,12 +10,12 @@ use Rattle.trace_text.specs.Reading.{has_ended, is_line, entry_in}
 use Rattle.trace_text.specs.declared.fault.CheckFault.{CheckFault}
 use Rattle.trace_text.specs.declared.fault.CheckFault.TheVariants.{Memory, NotATrace, Illegal, NotTheScript}
 
--- a trace has at most 67,108,864 bytes, and a line of it at most 65,536 before its line feed
+-- a trace has at most 67,108,864 bytes, and a line of it at most 1,048,576 before its line feed
 abbrev pub max_trace : ℕ
 max_trace = 67108864
 
 abbrev pub max_line : ℕ
-max_line = 65536
+max_line = 1048576
 
 abbrev pub has_line : Script → Entry → Bool
 has_line script e = is_entry script e && nat_le (length (entry_line script e)) (max_line + 1)

@@ -4,6 +4,8 @@ use Rattle.std.specs.Option.{option_map_or}
 use Rattle.pico_base.specs.declared.call.Call.{Call}
 use Rattle.pico_base.specs.declared.call.Call.TheVariants as calls
 use Rattle.pico_base.specs.declared.call.SemStep.{SemStep}
+use Rattle.pico_base.specs.declared.numbers.Name.{Name}
+use Rattle.pico_base.specs.declared.numbers.Name.TheVariants.{Proc, Msg, Sem}
 use Rattle.pico_base.specs.declared.reply.Reply.{Reply}
 use Rattle.pico_base.specs.declared.reply.Reply.TheVariants as replies
 use Rattle.pico_base.specs.declared.reply.Ending.TheVariants as endings
@@ -12,14 +14,13 @@ use Rattle.pico_base.specs.declared.reply.Errno.{Errno}
 use Rattle.pico_base.specs.declared.signal.PerSignal.{PerSignal}
 use Rattle.pico_base.specs.declared.script.Script.{Script}
 use Rattle.pico_base.specs.Options.{◌>>=◌}
-use Rattle.kernel_model.specs.Effect.{reply_alone}
 use Rattle.kernel_model.specs.Trace.{entry_line}
 use Rattle.call_words.specs.Verbs.{verb_of}
 use Rattle.call_words.specs.declared.verb.Verb.{Verb}
 use Rattle.call_words.specs.declared.verb.Verb.TheVariants as verbs
 use Rattle.quoted_bytes.specs.Front.{strip}
 use Rattle.trace_text.specs.Grammar.{is_entry}
-use Rattle.text_fields.specs.Fields.{number_at, signed_at, word_at, flag_at, signal_at, argument_at, action_at, how_at, error_at, steps_at, values_at, set_at, text_at}
+use Rattle.text_fields.specs.Fields.{number_at, signed_at, word_at, flag_at, signal_at, argument_at, action_at, how_at, error_at, all_at, steps_at, values_at, set_at, text_at}
 
 -- a part of a line, with what follows it
 abbrev pub Part : Type 0 → Type 0
@@ -250,14 +251,28 @@ call_by script verbs.SemGet rest = strip (codes " ") rest >>= arguments_at scrip
 call_by script verbs.SemOp rest = strip (codes " ") rest >>= arguments_at script verbs.SemOp
 call_by script verbs.SemCtl rest = strip (codes " ") rest >>= arguments_at script verbs.SemCtl
 
--- the end by a signal, where this is its word: it stands in a call's place, and no script calls it
-unfoldable pub end_by_signal_at : List ℕ → List ℕ → Part Call
-end_by_signal_at word rest = if bytes_eq word (codes "killed") then strip (codes " ") rest >>= killed_at else None
+-- a withdrawal from what has this number
+unfoldable pub withdrawal_from_at : (ℕ → Name) → List ℕ → Part Call
+withdrawal_from_at name bytes = do
+  number ← number_at 4294967295 bytes
+  Some (calls.Withdraw (name number.0), number.1)
+
+unfoldable pub withdrawal_at : List ℕ → Part Call
+withdrawal_at bytes =
+    option_map_or (withdrawal_from_at Msg) (strip (codes "msg ") bytes)
+    (option_map_or (withdrawal_from_at Sem) (strip (codes "sem ") bytes)
+    (option_map_or (withdrawal_from_at Proc) (strip (codes "proc ") bytes) None))
+
+-- what no script calls, where this is its word: the end by a signal and the end of a wait stand in a call's place
+unfoldable pub no_call_at : List ℕ → List ℕ → Part Call
+no_call_at word rest =
+    if bytes_eq word (codes "killed") then strip (codes " ") rest >>= killed_at else
+    if bytes_eq word (codes "withdraw") then strip (codes " ") rest >>= withdrawal_at else None
 
 unfoldable pub call_at : Script → List ℕ → Part Call
 call_at script bytes =
     let word = word_at bytes in
-    option_map_or (λ verb. call_by script verb word.1) (verb_of word.0) (end_by_signal_at word.0 word.1)
+    option_map_or (λ verb. call_by script verb word.1) (verb_of word.0) (no_call_at word.0 word.1)
 
 -- Replies.
 
@@ -342,22 +357,48 @@ made_at script bytes = do
   call ← call_at script front
   Some ((pid.0, call.0), call.1)
 
+abbrev pub or_parked : List ℕ → Part Reply → Part (Option Reply)
+or_parked bytes None = option_map (λ rest. (None, rest)) (strip (codes "parked") bytes)
+or_parked bytes (Some reply) = Some (Some reply.0, reply.1)
+
+-- the caller's own reply, or `parked` where it has none yet
+unfoldable pub own_at : List ℕ → Part (Option Reply)
+own_at bytes = or_parked bytes (reply_at bytes)
+
 -- who carried it out
-unfoldable pub by_at : List ℕ → Option ℕ
+unfoldable pub by_at : List ℕ → Part ℕ
 by_at bytes = do
   front ← strip (codes " by ") bytes
   node ← number_at 32 front
-  if has_ended node.1 && nat_le 1 node.0 then Some node.0 else None
+  if nat_le 1 node.0 then Some node else None
 
-abbrev pub entry_of : ℕ × Call → Reply → ℕ → Entry
-entry_of made reply node = record { pid = made.0; call = made.1; outcome = reply_alone reply; by = node }
+-- a caller that is woken, and its reply
+unfoldable pub wake_at : List ℕ → Part (ℕ × Reply)
+wake_at bytes = do
+  front ← strip (codes " wakes ") bytes
+  pid ← number_at 4294967295 front
+  rest ← strip (codes " ") pid.1
+  reply ← reply_at rest
+  Some ((pid.0, reply.0), reply.1)
+
+-- all callers that are woken, in their order
+abbrev pub wakes_at : List ℕ → List (ℕ × Reply) × List ℕ
+wakes_at bytes = all_at wake_at bytes
+
+abbrev pub entry_of : ℕ × Call → Option Reply → ℕ → List (ℕ × Reply) → Entry
+entry_of made own node woken =
+    record { pid = made.0; call = made.1; outcome = record { own = own; woken = woken }; by = node }
+
+-- an entry, where nothing follows the callers that are woken
+abbrev pub ended_entry : ℕ × Call → Option Reply → ℕ → List (ℕ × Reply) × List ℕ → Option Entry
+ended_entry made own node wakes = if has_ended wakes.1 then Some (entry_of made own node wakes.0) else None
 
 abbrev pub replied_at : ℕ × Call → List ℕ → Option Entry
 replied_at made bytes = do
   front ← strip (codes " = ") bytes
-  reply ← reply_at front
-  node ← by_at reply.1
-  Some (entry_of made reply.0 node)
+  own ← own_at front
+  node ← by_at own.1
+  ended_entry made own.0 node.0 (wakes_at node.1)
 
 unfoldable pub entry_at : Script → List ℕ → Option Entry
 entry_at script bytes = do

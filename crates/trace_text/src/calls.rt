@@ -1,11 +1,12 @@
 //! A call at the front of a line, as the trace prints it.
 ghost use Rattle.std.specs.Prelude.{◌≡◌, ◌≤◌, IfOk, IfSome, IsTrue, option_map, position, length, bytes_eq};
 ghost use Rattle.pico_base.specs.declared.call.Call.TheVariants.{SemGetVal, SemGetPid, SemGetNcnt, SemGetZcnt};
+ghost use Rattle.pico_base.specs.declared.numbers.Name.TheVariants.{Proc, Msg, Sem};
 ghost use Rattle.text_fields.specs.Fields.{number_at};
 ghost use Rattle.trace_text.specs.Reading as reading;
 
 use call_words::Verb;
-use pico_base::{Block, Call, Id, Key, Memory, Node, Pid, Script};
+use pico_base::{Block, Call, Id, Key, Memory, Name, Node, Pid, Script};
 use quoted_bytes::strip_front;
 use std::alloc::Global;
 use text_fields::{
@@ -469,13 +470,63 @@ fn named<'a>(
     }
 }
 
-/// The end by a signal, where this is its word. A trace has it in a call's place, and no script calls it.
-#[tactic(auto, unfolding(crate::specs::Reading::end_by_signal_at))]
-fn end_by_signal<'a>(word: &[u8], bytes: &'a [u8]) -> Read<'a>
-    ensures { option_map (λ x. (x.0, x.1.now)) result ≡ reading.end_by_signal_at word.now bytes.now }
+/// A withdrawal from the queue of this number.
+#[tactic(auto, unfolding(crate::specs::Reading::withdrawal_from_at))]
+fn withdrawal_from_queue(bytes: &[u8]) -> Read<'_>
+    ensures { option_map (λ x. (x.0, x.1.now)) result ≡ reading.withdrawal_from_at Msg bytes.now }
+{
+    let (id, rest) = number_front(u32::MAX, bytes)?;
+    let name = Name::Msg(Id(id));
+    Some((Call::Withdraw { name }, rest))
+}
+
+/// A withdrawal from the semaphore set of this number.
+#[tactic(auto, unfolding(crate::specs::Reading::withdrawal_from_at))]
+fn withdrawal_from_set(bytes: &[u8]) -> Read<'_>
+    ensures { option_map (λ x. (x.0, x.1.now)) result ≡ reading.withdrawal_from_at Sem bytes.now }
+{
+    let (id, rest) = number_front(u32::MAX, bytes)?;
+    let name = Name::Sem(Id(id));
+    Some((Call::Withdraw { name }, rest))
+}
+
+/// A withdrawal from the wait for the child of this number, or for any where it is the caller's own.
+#[tactic(auto, unfolding(crate::specs::Reading::withdrawal_from_at))]
+fn withdrawal_from_process(bytes: &[u8]) -> Read<'_>
+    ensures { option_map (λ x. (x.0, x.1.now)) result ≡ reading.withdrawal_from_at Proc bytes.now }
+{
+    let (pid, rest) = number_front(u32::MAX, bytes)?;
+    let name = Name::Proc(Pid(pid));
+    Some((Call::Withdraw { name }, rest))
+}
+
+#[tactic(auto, unfolding(crate::specs::Reading::withdrawal_at))]
+fn withdrawal(bytes: &[u8]) -> Read<'_>
+    ensures { option_map (λ x. (x.0, x.1.now)) result ≡ reading.withdrawal_at bytes.now }
+{
+    if let Some(rest) = strip_front(bytes, b"msg ") {
+        return withdrawal_from_queue(rest);
+    }
+    if let Some(rest) = strip_front(bytes, b"sem ") {
+        return withdrawal_from_set(rest);
+    }
+    match strip_front(bytes, b"proc ") {
+        Some(rest) => withdrawal_from_process(rest),
+        None => None,
+    }
+}
+
+/// What no script calls, where this is its word: the end by a signal, and the end of a wait, as a trace has them in a
+/// call's place.
+#[tactic(auto, unfolding(crate::specs::Reading::no_call_at))]
+fn no_call<'a>(word: &[u8], bytes: &'a [u8]) -> Read<'a>
+    ensures { option_map (λ x. (x.0, x.1.now)) result ≡ reading.no_call_at word.now bytes.now }
 {
     if word == b"killed".as_slice() {
-        killed(strip_front(bytes, b" ")?)
+        return killed(strip_front(bytes, b" ")?);
+    }
+    if word == b"withdraw".as_slice() {
+        withdrawal(strip_front(bytes, b" ")?)
     } else {
         None
     }
@@ -494,6 +545,6 @@ pub(crate) fn call_front<'a>(
     let (word, rest) = word_front(bytes);
     match Verb::named(word) {
         Some(verb) => named(alloc, script, verb, rest),
-        None => Ok(end_by_signal(word, rest)),
+        None => Ok(no_call(word, rest)),
     }
 }

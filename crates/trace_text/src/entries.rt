@@ -1,12 +1,12 @@
 //! A line of a trace, read as its entry.
-ghost use Rattle.std.specs.Prelude.{◌≡◌, ◌≤◌, IfOk, option_map, length};
+ghost use Rattle.std.specs.Prelude.{◌≡◌, ◌≤◌, IfOk, None, option_map, length};
 ghost use Rattle.trace_text.specs.Reading as reading;
 
 use crate::calls::call_front;
 use crate::grammar::is_entry;
 use crate::print_entries::push_entry;
 use crate::replies::reply_front;
-use pico_base::{Call, Entry, Memory, Node, Outcome, Pid, Reply, Script};
+use pico_base::{Call, Entry, Memory, Node, Outcome, Pid, Reply, Script, Sequence, Woken};
 use quoted_bytes::strip_front;
 use std::alloc::Global;
 use text_fields::number_front;
@@ -34,43 +34,119 @@ fn made<'a>(
     }
 }
 
-/// The node at the end of a line.
+/// `parked`, where the caller has no reply yet.
+fn parked(bytes: &[u8]) -> Option<(Option<Reply>, &[u8])>
+    ensures { option_map (λ x. (x.0, x.1.now)) result ≡ reading.or_parked bytes.now None }
+{
+    let rest = strip_front(bytes, b"parked")?;
+    Some((None, rest))
+}
+
+/// The caller's own reply, or `parked`.
+#[tactic(auto, unfolding(crate::specs::Reading::own_at))]
+fn own(alloc: Global, bytes: &[u8]) -> Result<Option<(Option<Reply>, &[u8])>, Memory>
+    ensures { IfOk result (λ own. option_map (λ x. (x.0, x.1.now)) own ≡ reading.own_at bytes.now) }
+{
+    match reply_front(alloc, bytes) {
+        Ok(Some((reply, rest))) => Ok(Some((Some(reply), rest))),
+        Ok(None) => Ok(parked(bytes)),
+        Err(memory) => Err(memory),
+    }
+}
+
+/// The node that carried the call out.
 #[tactic(auto, unfolding(crate::specs::Reading::by_at))]
-fn by(bytes: &[u8]) -> Option<Node>
-    ensures { result ≡ reading.by_at bytes.now }
+fn by(bytes: &[u8]) -> Option<(Node, &[u8])>
+    ensures { option_map (λ x. (x.0, x.1.now)) result ≡ reading.by_at bytes.now }
 {
     let rest = strip_front(bytes, b" by ")?;
     let (node, rest) = number_front(32, rest)?;
-    if rest.is_empty() && 1 <= node {
-        Some(Node(node as u8))
+    if 1 <= node {
+        Some((Node(node as u8), rest))
     } else {
         None
     }
 }
 
-fn entry_of(alloc: Global, made: (Pid, Call), reply: Reply, by: Node) -> Entry
-    ensures { result ≡ reading.entry_of made reply by }
+/// A caller that is woken, and its reply.
+type Wake<'a> = Option<((Pid, Reply), &'a [u8])>;
+
+#[tactic(auto, unfolding(crate::specs::Reading::wake_at))]
+fn wake(alloc: Global, bytes: &[u8]) -> Result<Wake<'_>, Memory>
+    ensures { IfOk result (λ wake. option_map (λ x. (x.0, x.1.now)) wake ≡ reading.wake_at bytes.now) }
+{
+    let Some(rest) = strip_front(bytes, b" wakes ") else {
+        return Ok(None);
+    };
+    let Some((pid, rest)) = number_front(u32::MAX, rest) else {
+        return Ok(None);
+    };
+    let Some(rest) = strip_front(rest, b" ") else {
+        return Ok(None);
+    };
+    match reply_front(alloc, rest) {
+        Ok(Some((reply, rest))) => Ok(Some(((Pid(pid), reply), rest))),
+        Ok(None) => Ok(None),
+        Err(memory) => Err(memory),
+    }
+}
+
+/// The callers that are woken, in their order.
+fn wakes(alloc: Global, bytes: &[u8]) -> Result<(Woken, &[u8]), Memory>
+    ensures { IfOk result (λ x. (x.0, x.1.now) ≡ reading.wakes_at bytes.now) }
+{
+    let mut woken = Sequence::new(alloc);
+    let mut rest = bytes;
+    for _ in 0..bytes.len() {
+        let Some((one, after)) = wake(alloc, rest)? else {
+            return Ok((woken, rest));
+        };
+        woken.push(one)?;
+        rest = after;
+    }
+    Ok((woken, rest))
+}
+
+fn entry_of(made: (Pid, Call), own: Option<Reply>, by: Node, woken: Woken) -> Entry
+    ensures { result ≡ reading.entry_of made own by woken }
 {
     let (pid, call) = made;
-    let outcome = Outcome::reply(alloc, reply);
     Entry {
         pid,
         call,
-        outcome,
+        outcome: Outcome { own, woken },
         by,
     }
 }
 
-/// The reply to a call and the node, behind the call.
-fn with_reply(alloc: Global, made: (Pid, Call), bytes: &[u8]) -> Result<Option<Entry>, Memory>
+/// The entry, where nothing follows the callers that are woken.
+fn with_wakes(
+    alloc: Global,
+    made: (Pid, Call),
+    own: Option<Reply>,
+    by: Node,
+    bytes: &[u8],
+) -> Result<Option<Entry>, Memory>
+    ensures { IfOk result (λ entry. entry ≡ reading.ended_entry made own by (reading.wakes_at bytes.now)) }
+{
+    let (woken, rest) = wakes(alloc, bytes)?;
+    if rest.is_empty() {
+        Ok(Some(entry_of(made, own, by, woken)))
+    } else {
+        Ok(None)
+    }
+}
+
+/// What the call came to, and the node, behind the call.
+fn with_outcome(alloc: Global, made: (Pid, Call), bytes: &[u8]) -> Result<Option<Entry>, Memory>
     ensures { IfOk result (λ entry. entry ≡ reading.replied_at made bytes.now) }
 {
     let Some(rest) = strip_front(bytes, b" = ") else {
         return Ok(None);
     };
-    match reply_front(alloc, rest) {
-        Ok(Some((reply, rest))) => match by(rest) {
-            Some(node) => Ok(Some(entry_of(alloc, made, reply, node))),
+    match own(alloc, rest) {
+        Ok(Some((own, rest))) => match by(rest) {
+            Some((node, rest)) => with_wakes(alloc, made, own, node, rest),
             None => Ok(None),
         },
         Ok(None) => Ok(None),
@@ -85,7 +161,7 @@ fn entry(alloc: Global, script: &Script, bytes: &[u8]) -> Result<Option<Entry>, 
     ensures { IfOk result (λ entry. entry ≡ reading.entry_at script.now bytes.now) }
 {
     match made(alloc, script, bytes) {
-        Ok(Some((made, rest))) => with_reply(alloc, made, rest),
+        Ok(Some((made, rest))) => with_outcome(alloc, made, rest),
         Ok(None) => Ok(None),
         Err(memory) => Err(memory),
     }

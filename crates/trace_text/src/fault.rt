@@ -2,7 +2,7 @@
 ghost use Rattle.std.specs.Prelude.{◌≡◌};
 ghost use Rattle.trace_text.specs.declared.fault.CheckFault.TheVariants.{Memory as OutOfMemory};
 
-use pico_base::{Call, Memory, Reply};
+use pico_base::{Call, Memory, Outcome};
 use std::alloc::AllocError;
 use thiserror::Error;
 
@@ -17,14 +17,15 @@ pub enum CheckFault {
     NotATrace {
         line: u32,
     },
-    /// The kernel has no transition here, or another reply.
-    #[error("line {line}: another reply than the kernel's")]
+    /// The kernel has no transition here, or another outcome: another reply of the caller's own, or other callers that
+    /// are woken.
+    #[error("line {line}: another outcome than the kernel's")]
     Illegal {
         line: u32,
-        /// The kernel's reply; none where it has no transition.
-        kernel: Option<Reply>,
-        /// The reply of the line.
-        trace: Reply,
+        /// What the call comes to in the kernel; none where it has no transition.
+        kernel: Option<Outcome>,
+        /// What it comes to by the line.
+        trace: Outcome,
     },
     /// The call isn't the one that is due by the script.
     #[error("line {line}: another call than the one that is due")]

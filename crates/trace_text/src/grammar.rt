@@ -7,7 +7,7 @@ ghost use Rattle.kernel_model.specs.Script.{is_type, is_key, is_child, is_place,
 ghost use Rattle.trace_text.specs.Grammar as grammar;
 
 use crate::text::is_repeat;
-use pico_base::{Call, Ending, Entry, Id, Key, Node, Outcome, Pid, Reply, Script, SemStep};
+use pico_base::{Call, Ending, Entry, Id, Key, Name, Node, Outcome, Pid, Reply, Script, SemStep};
 
 /// The most bytes that `rep:N:C` stands for.
 const MAX_REPEATED: usize = 8192;
@@ -139,6 +139,16 @@ fn are_long(values: &[u32]) -> bool
     has_some(values.len()) && all_are_long(values)
 }
 
+/// Whether the name that a withdrawal has is a number of a trace's line.
+fn is_withdrawal(name: &Name) -> bool
+    ensures { result ≡ grammar.is_withdrawal name.now }
+{
+    match name {
+        Name::Proc(pid) => is_process(*pid),
+        Name::Msg(id) | Name::Sem(id) => is_id(*id),
+    }
+}
+
 /// Whether the call's arguments are in the ranges of a trace's line.
 pub fn is_call(script: &Script, call: &Call) -> bool
     ensures { result ≡ grammar.is_call script.now call.now }
@@ -182,7 +192,7 @@ pub fn is_call(script: &Script, call: &Call) -> bool
         Call::SemSetVal { id, num, value } => is_semaphore(*id, *num) && is_short(*value),
         Call::SemGetAll { id } | Call::SemRmid { id } => is_id(*id),
         Call::SemSetAll { id, values } => is_id(*id) && are_short(values.as_slice()),
-        Call::Withdraw { .. } => false,
+        Call::Withdraw { name } => is_withdrawal(name),
     }
 }
 
@@ -219,14 +229,28 @@ fn is_own(own: &Option<Reply>) -> bool
 {
     match own {
         Some(reply) => is_reply(reply),
-        None => false,
+        None => true,
     }
 }
 
-fn is_outcome(outcome: &Outcome) -> bool
+fn is_wake(pid: Pid, reply: &Reply) -> bool
+    ensures { result ≡ grammar.is_wake (pid, reply.now) }
+{
+    is_process(pid) && is_reply(reply)
+}
+
+fn are_wakes(woken: &[(Pid, Reply)]) -> bool
+    ensures { result ≡ list_all grammar.is_wake woken.now }
+{
+    woken.iter().all(|wake| is_wake(wake.0, &wake.1))
+}
+
+/// Whether the numbers of what a call came to are in the ranges of a trace's line: the caller's own reply, where it has
+/// one, and each caller that is woken with its reply. It says nothing of whether the call comes to that.
+pub fn is_outcome(outcome: &Outcome) -> bool
     ensures { result ≡ grammar.is_outcome outcome.now }
 {
-    is_own(&outcome.own) && outcome.woken.len() == 0
+    is_own(&outcome.own) && are_wakes(outcome.woken.as_slice())
 }
 
 fn is_node(node: Node) -> bool

@@ -4,6 +4,7 @@ ghost use Rattle.std.specs.List.{flat_map};
 ghost use Rattle.std.specs.Fmt.{decimal};
 ghost use Rattle.kernel_model.specs.Trace as trace;
 ghost use Rattle.pico_base.specs.declared.reply.Reply.TheVariants.{Num};
+ghost use Rattle.trace_text.specs.Outcome.{outcome_text};
 
 use crate::fields::push_node;
 use crate::print_calls::push_call;
@@ -44,6 +45,16 @@ fn push_wakes(out: &mut Vec<u8>, woken: &[(Pid, Reply)]) -> Result<(), Memory>
         push_wake(out, *pid, reply)?;
     }
     Ok(())
+}
+
+/// Adds what a call came to, as a trace has it but for the node: the caller's reply, or `parked` where it has none yet,
+/// and ` wakes PID REPLY` for each caller that is woken, in order. Memory: more was needed, and an allocation was
+/// refused.
+pub fn push_outcome(out: &mut Vec<u8>, outcome: &Outcome) -> Result<(), Memory>
+    ensures { OnOk result (out.new.items ≡ out.old.items ++ outcome_text outcome.now) }
+{
+    push_own(out, &outcome.own)?;
+    push_wakes(out, outcome.woken.as_slice())
 }
 
 // Who carried it out, where that woke nobody and the node has one digit.

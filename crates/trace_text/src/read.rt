@@ -16,7 +16,7 @@ use std::alloc::Global;
 pub const MAX_TRACE: usize = 67_108_864;
 
 /// The most bytes of a line, without its line feed.
-const MAX_LINE: usize = 65_536;
+const MAX_LINE: usize = 1_048_576;
 
 /// Where the first line feed is.
 fn line_end(bytes: &[u8]) -> Option<usize>
@@ -103,9 +103,9 @@ pub(crate) fn read(
     Err(CheckFault::NotATrace { line })
 }
 
-/// The entries of the history whose text these bytes are: lines in the grammar of a trace, each of at most 65,536 bytes
-/// without its line feed, and the totals, in at most 67,108,864 bytes. `NotATrace` comes exactly where they are none,
-/// with the line at which the first fault stands, counted from `first_line`.
+/// The entries of the history whose text these bytes are: lines in the grammar of a trace, each of at most 1,048,576
+/// bytes without its line feed, and the totals, in at most 67,108,864 bytes. `NotATrace` comes exactly where they are
+/// none, with the line at which the first fault stands, counted from `first_line`.
 pub fn read_trace(
     alloc: Global,
     script: &Script,

@@ -18,3 +18,4 @@ mod Carrying
 mod Woken
 mod MarkMoves
 mod Places
+mod Order

@@ -2,32 +2,30 @@
 use Rattle.std.proofs.Common.{◌≡◌, ◌≢◌, ◌∙◌, ℕ, Bool, true, false, ◌||◌, nat_eq, List, [], ◌∷◌, Option, Some, None, is_some, refl, ap, sym, subst, inl, inr}
 use Rattle.std.specs.Prelude.{if◌then◌else◌, fold}
 use Rattle.std.specs.Option.{option_and_then}
-use Rattle.std.proofs.lemmas.Bool.{true≢false, false≢true, cases_eq}
+use Rattle.std.proofs.lemmas.Bool.{cases_eq}
 use Rattle.pico_base.specs.declared.call.Call.{Call}
 use Rattle.pico_base.specs.declared.call.Call.TheVariants as calls
 use Rattle.pico_base.specs.declared.reply.Entry.{Entry}
 use Rattle.pico_base.specs.declared.reply.Reply.{Reply}
 use Rattle.pico_base.specs.declared.reply.Reply.TheVariants as replies
 use Rattle.pico_base.specs.declared.script.Script.{Script}
-use Rattle.number_maps.specs.Maps.{Numbered, get, put}
+use Rattle.number_maps.specs.Maps.{get, put}
 use Rattle.number_maps.proofs.LookUps.{get-later, get-put-same, get-put-other}
 use Rattle.number_maps.proofs.Order.{eq-same, eq-other, same-from-nat_eq}
 use Rattle.kernel_model.specs.Effect.{is_fresh}
 use Rattle.kernel_model.specs.Fitting.{Place, block_at, block_place, child_vars, due}
 use Rattle.kernel_model.specs.History.{number_in}
 use Rattle.waiting_model.specs.Kernel.{Kernel, Process, alive_in, opening}
-use Rattle.waiting_model.specs.Effect.{Effect, outcome_of_effect}
-use Rattle.waiting_model.specs.ProcessCalls.{fork_effect}
-use Rattle.waiting_model.specs.Transition.{Successor, effect, finish_call, successor, transition}
-use Rattle.waiting_model.specs.Waiters.{waiter}
+use Rattle.waiting_model.specs.Effect.{Effect}
+use Rattle.waiting_model.specs.Transition.{Successor, successor, transition}
 use Rattle.waiting_model.specs.Marks.{Alive}
 use Rattle.waiting_model.specs.History.{Replays}
-use Rattle.waiting_model.specs.Fitting.{FitsFrom, Places, Progress, after_entry, answered, after_fork, after_own, after_wake, after_withdrawal, after_woken, at_place, opening_places, places_after, woken_at}
+use Rattle.waiting_model.specs.Fitting.{FitsFrom, Places, Progress, after_entry, answered, after_fork, after_wake, after_woken, at_place, opening_places, places_after, woken_at}
 use Rattle.waiting_laws.specs.Parked.{mark_of, mark_in}
 use Rattle.waiting_laws.specs.Woken.{WakesRightly, woken_in}
 use Rattle.waiting_laws.specs.MarkMoves.{MovesMarks, own_mark}
 use Rattle.waiting_laws.specs.Places.{PlacesAreMarks}
-use Rattle.waiting_laws.proofs.Options.{not-none, not-some, same-some, some-isnt-none}
+use Rattle.waiting_laws.proofs.Options.{not-some, same-some, some-isnt-none}
 use Rattle.waiting_laws.proofs.Parked.{two-tests}
 use Rattle.waiting_laws.proofs.Marked.{Fine}
 use Rattle.waiting_laws.proofs.Entries.{entry-fine, opening-fine, opening-unmarked, unused}

@@ -4,7 +4,8 @@ use Rattle.std.specs.List.{filter, AllByRecursion}
 use Rattle.waiting_model.specs.declared.callers.Waiting.{Waiting}
 use Rattle.waiting_model.specs.Waiters.{Attempt, Awaited, Ready, Try, awaited, ready_or, first_ready, settle_on, settle_by, carry_out_by, carry_out, IsSettled}
 
-nobody : (P : Waiting → Type 0) (ws : List Waiting) → length ws ≤ 0 → AllByRecursion P ws
+-- of nobody all holds
+pub nobody : (P : Waiting → Type 0) (ws : List Waiting) → length ws ≤ 0 → AllByRecursion P ws
 nobody P [] h = tt
 nobody P (w ∷ ws) h = absurd (omega arith)
 
@@ -26,7 +27,7 @@ all-of-filter P test (w ∷ ws) h = all-kept P w (test w) (filter test ws) h.0 (
 
 module _ {T : Type 0} where
   -- nobody is ready, or the others are one fewer
-  abbrev FirstOf : Try T → T → List Waiting → Option (Ready T) → Type 0
+  abbrev pub FirstOf : Try T → T → List Waiting → Option (Ready T) → Type 0
   FirstOf try state ws None = AllByRecursion (λ w. try state w.pid w.call ≡ None) ws
   FirstOf try state ws (Some r) = length ws ≡ suc (length r.others)
 
@@ -37,7 +38,8 @@ module _ {T : Type 0} where
   first-or try state w ws None is None h = (is, h)
   first-or try state w ws None is (Some r) h = ap suc h
 
-  first-of : (try : Try T) (state : T) (ws : List Waiting) → FirstOf try state ws (first_ready try state ws)
+  -- so it is of the first who is ready
+  pub first-of : (try : Try T) (state : T) (ws : List Waiting) → FirstOf try state ws (first_ready try state ws)
   first-of try state [] = tt
   first-of try state (w ∷ ws) =
       first-or try state w ws (try state w.pid w.call) refl (first_ready try state ws) (first-of try state ws)

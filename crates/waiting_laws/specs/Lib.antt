@@ -7,3 +7,5 @@ pub mod Carried
 pub mod Woken
 pub mod MarkMoves
 pub mod Places
+pub mod Order
+pub mod Examples

@@ -5,6 +5,7 @@
 ghost use Rattle.waiting_laws.specs.Before.{CallsAreAsBefore, HistoriesAreAsBefore};
 ghost use Rattle.waiting_laws.specs.Carried.{LooksWakeNobody, NodesDontMatter, ParkingAddsOne};
 ghost use Rattle.waiting_laws.specs.MarkMoves.{ReachableEntriesMoveMarks};
+ghost use Rattle.waiting_laws.specs.Order.{WakesGoInOrder};
 ghost use Rattle.waiting_laws.specs.Parked.{ReachableMarksAreWaits, ReachableWaitsFindNothing};
 ghost use Rattle.waiting_laws.specs.Places.{PlacesAreMarks};
 ghost use Rattle.waiting_laws.specs.Removals.{QueueRemovalsWakeAll, SetRemovalsWakeAll, WithdrawalsLeaveTheRest};
@@ -94,4 +95,11 @@ pub fn parking_adds_one()
 /// A call that leaves a queue or a set as it was wakes nobody, where nobody waits there whose call could go on.
 pub fn looks_wake_nobody()
     ensures { LooksWakeNobody }
+{}
+
+/// Behind a call on a queue or a set that has its reply, the first of those who wait there whose call can go on does so
+/// and has its reply, and so again from what that leaves, until nobody there can go on. So each who is woken is woken
+/// once, behind all who parked before it and could go on then.
+pub fn wakes_go_in_order()
+    ensures { WakesGoInOrder }
 {}

@@ -1,5 +1,5 @@
 -- Worked examples of whole histories in which callers wait: legal, fitting, and as a trace.
-use Rattle.std.specs.Prelude.{◌≡◌, ◌⊎◌, ℕ, pos, true, false, List, [], ◌∷◌, ◌++◌, Option, Some, None, refl, codes}
+use Rattle.std.specs.Prelude.{◌≡◌, ℕ, pos, false, List, [], ◌∷◌, ◌++◌, Option, Some, None, refl, codes}
 use Rattle.std.specs.Fmt.{digits}
 use Rattle.std.proofs.Common.{inl, inr}
 use Rattle.pico_base.specs.declared.call.Call.{Call}

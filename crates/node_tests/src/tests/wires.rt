@@ -181,19 +181,11 @@ pub(super) fn checkpoint_of(
     })
 }
 
-/// The frame, to a node that has started so many calls.
-pub(super) fn frame_of(alloc: Global, wire: Wire, started: u32) -> Result<Frame, Memory> {
-    Ok(match wire {
-        Wire::Ask(what) => Frame::Ask {
-            ticket: 1,
-            pid: Pid(9),
-            call: call_of(what),
-        },
-        Wire::AskWithoutTicket(what) => Frame::Ask {
-            ticket: 0,
-            pid: Pid(9),
-            call: call_of(what),
-        },
+/// A frame with a call, and no deeds; RecallAll for any other.
+fn with_call(wire: Wire) -> Frame {
+    match wire {
+        Wire::Ask(what) => ask_of(1, what),
+        Wire::AskWithoutTicket(what) => ask_of(0, what),
         Wire::Request(what) => Frame::Request {
             ticket: 1,
             pid: Pid(9),
@@ -205,6 +197,21 @@ pub(super) fn frame_of(alloc: Global, wire: Wire, started: u32) -> Result<Frame,
         Wire::Bounce(caller, what) => Frame::Bounce {
             asked: asked_of(caller, what),
         },
+        _ => Frame::RecallAll,
+    }
+}
+
+fn ask_of(ticket: u32, what: Do) -> Frame {
+    Frame::Ask {
+        ticket,
+        pid: Pid(9),
+        call: call_of(what),
+    }
+}
+
+/// A frame about a call under way, to a node that has started so many; RecallAll for any other.
+fn with_ticket(wire: Wire, started: u32) -> Frame {
+    match wire {
         Wire::Answer(on) => Frame::Answer {
             ticket: started.wrapping_add(on),
             reply: Reply::Num(0),
@@ -216,13 +223,19 @@ pub(super) fn frame_of(alloc: Global, wire: Wire, started: u32) -> Result<Frame,
         Wire::NotOwner(on) => Frame::NotOwner {
             ticket: started.wrapping_add(on),
         },
+        _ => Frame::RecallAll,
+    }
+}
+
+/// A frame of names and numbers alone; RecallAll for any other.
+fn with_names(wire: Wire) -> Frame {
+    match wire {
         Wire::LeaseAsk(kind) => Frame::LeaseAsk { kind },
         Wire::Lease(kind, first) => Frame::Lease { kind, first },
         Wire::Placed(named, at) => Frame::Placed {
             name: name_of(named),
             node: node_of(at),
         },
-        Wire::Checkpoint(pid, deed) => checkpoint_of(alloc, pid, &deed, &[C])?,
         Wire::Suggest(named, to) => Frame::Suggest {
             name: name_of(named),
             node: node_of(to),
@@ -230,23 +243,40 @@ pub(super) fn frame_of(alloc: Global, wire: Wire, started: u32) -> Result<Frame,
         Wire::Recall(named) => Frame::Recall {
             name: name_of(named),
         },
-        Wire::GiveBack(deed) => Frame::GiveBack {
-            deed: deed_of(alloc, &deed)?,
-        },
-        Wire::Grant(deed) => Frame::Grant {
-            deed: deed_of(alloc, &deed)?,
-        },
         Wire::Leaving(pid, parent, at) => Frame::Leaving {
             pid: Pid(pid),
             parent: Pid(parent),
             parent_node: node_of(at),
         },
-        Wire::RecallAll => Frame::RecallAll,
-        Wire::Left(load) => Frame::Left {
+        _ => Frame::RecallAll,
+    }
+}
+
+/// The frame, to a node that has started so many calls. Its kinds are made by functions of their own: one with all of
+/// them is dearer than these together.
+pub(super) fn frame_of(alloc: Global, wire: Wire, started: u32) -> Result<Frame, Memory> {
+    match wire {
+        Wire::Checkpoint(pid, deed) => checkpoint_of(alloc, pid, &deed, &[C]),
+        Wire::GiveBack(deed) => Ok(Frame::GiveBack {
+            deed: deed_of(alloc, &deed)?,
+        }),
+        Wire::Grant(deed) => Ok(Frame::Grant {
+            deed: deed_of(alloc, &deed)?,
+        }),
+        Wire::Left(load) => Ok(Frame::Left {
             parcel: parcel_of(alloc, &load)?,
-        },
-        Wire::ExitTo(load) => Frame::ExitTo {
+        }),
+        Wire::ExitTo(load) => Ok(Frame::ExitTo {
             parcel: parcel_of(alloc, &load)?,
-        },
-    })
+        }),
+        Wire::Answer(_) | Wire::AnswerEnded(_) | Wire::NotOwner(_) => {
+            Ok(with_ticket(wire, started))
+        }
+        Wire::Ask(_)
+        | Wire::AskWithoutTicket(_)
+        | Wire::Request(_)
+        | Wire::Forward(_, _)
+        | Wire::Bounce(_, _) => Ok(with_call(wire)),
+        _ => Ok(with_names(wire)),
+    }
 }

@@ -1,89 +1,69 @@
-//! Masked and pending signals, and the bytes of a state.
-use pico_base::{Act, Errno, How, Sig, SigArg, SigSet};
+//! The bytes of a state, and a count at its greatest value. What masks and actions do stands in the golden cases of
+//! `cases/signals`.
+use pico_base::{Act, How, Sig, SigArg, SigSet};
 use signal_state::{PACKED, Signals};
-use std::process::Abort;
 
-const USR1: SigArg = SigArg::Is(Sig::Usr1);
-
-/// The set of USR1 alone.
-fn usr1() -> SigSet {
-    SigSet::empty().with(Sig::Usr1)
+/// USR1 is caught, masked and pending.
+fn body() -> [u8; PACKED] {
+    let mut bytes = [0; PACKED];
+    bytes[4] = 2;
+    bytes[11] = 0x10;
+    bytes[13] = 0x10;
+    bytes
 }
 
-/// A state whose USR1 is caught and masked, and pending after two raises.
-fn with_usr1_pending(rt: &impl Abort) -> Signals {
+#[test]
+fn packed(rt: HostRuntime) {
     let mut signals = Signals::new();
-    assert_eq!(rt; signals.act(USR1, Act::Catch), Ok(()));
-    assert_eq!(rt; signals.mask(How::Block, usr1()), SigSet::empty());
+    let _ = signals.act(SigArg::Is(Sig::Usr1), Act::Catch);
+    signals.mask(How::Block, SigSet::empty().with(Sig::Usr1));
     signals.raise(Sig::Usr1);
-    signals.raise(Sig::Usr1);
-    assert_eq!(rt; signals.pending(), usr1());
-    signals
+    assert!(rt; signals.pack() == body());
 }
 
-#[test]
-fn a_masked_signal_is_pending_until_it_is_ignored(rt: HostRuntime) {
-    let mut signals = with_usr1_pending(&rt);
-    assert_eq!(rt; signals.act(USR1, Act::Ign), Ok(()));
-    assert!(rt; signals.ignores(Sig::Usr1));
-    assert_eq!(rt; signals.pending(), SigSet::empty());
-    assert_eq!(rt; signals.mask(How::Unblock, usr1()), usr1());
-    assert_eq!(rt; signals.handled(Sig::Usr1), 0);
-    assert_eq!(rt;
-        signals.act(SigArg::Is(Sig::Kill), Act::Ign),
-        Err(Errno::Einval)
-    );
-    assert_eq!(rt; signals.doom(), None);
-}
-
-#[test]
-fn unblocking_delivers_once_and_in_table_order(rt: HostRuntime) {
-    let mut signals = with_usr1_pending(&rt);
-    signals.mask(How::Block, SigSet::empty().with(Sig::Term).with(Sig::Int));
-    signals.raise(Sig::Term);
-    signals.raise(Sig::Int);
-    let child = signals.inherit();
-    assert_eq!(rt; child.pending(), SigSet::empty());
-    signals.mask(How::SetMask, SigSet::empty());
-    // INT comes first and dooms the process, so USR1 and TERM stay pending.
-    assert_eq!(rt; signals.doom(), Some(Sig::Int));
-    assert_eq!(rt; signals.pending(), usr1().with(Sig::Term));
-    assert_eq!(rt; signals.handled(Sig::Usr1), 0);
-    let mut signals = with_usr1_pending(&rt);
-    signals.mask(How::Unblock, usr1());
-    assert_eq!(rt; signals.handled(Sig::Usr1), 1);
-}
-
-#[test]
-fn a_state_is_packed_and_unpacked(rt: HostRuntime) {
-    let signals = with_usr1_pending(&rt);
-    let bytes = signals.pack();
-    let mut wanted = [0; PACKED];
-    wanted[4] = 2;
-    wanted[11] = 0x10;
-    wanted[13] = 0x10;
-    assert_eq!(rt; bytes, wanted);
-    // Another action, an unused bit, KILL in a set, CHLD pending at its default, another doom.
-    for (place, byte) in [(4, 3), (3, 1), (10, 4), (11, 8), (13, 8), (12, 2), (54, 11)] {
-        let mut other = bytes;
-        other[place] = byte;
-        assert!(rt; Signals::unpack(&other).is_none(), "byte {place}");
+/// Whether the bytes but for their last one are no state's.
+fn ends_early(bytes: &[u8]) -> bool {
+    match bytes.split_last() {
+        Some((_, front)) => Signals::unpack(front).is_none(),
+        None => false,
     }
-    assert!(rt; Signals::unpack(&bytes[..54]).is_none());
+}
+
+/// Whether the bytes, with another one at this place, are no state's.
+fn is_refused(place: usize, byte: u8) -> bool {
+    let mut bytes = body();
+    if let Some(one) = bytes.get_mut(place) {
+        *one = byte;
+    }
+    Signals::unpack(&bytes).is_none()
+}
+
+#[test]
+fn refused_bodies(rt: HostRuntime) {
+    assert!(rt; Signals::unpack(&body()).is_some());
+    assert!(rt; ends_early(&body()));
+    // another action, an unused bit, KILL in a set, CHLD pending at its default, another doom
+    for (place, byte) in [(4, 3), (3, 1), (10, 4), (11, 8), (13, 8), (12, 2), (54, 11)] {
+        assert!(rt; is_refused(place, byte), "byte {place}");
+    }
+}
+
+/// USR1 is caught, and was handled 4,294,967,295 times.
+fn often_handled() -> [u8; PACKED] {
+    let mut bytes = [0; PACKED];
+    bytes[4] = 2;
+    for place in 30..34 {
+        bytes[place] = 0xff;
+    }
+    bytes
 }
 
 #[test]
 fn a_count_stays_at_its_greatest_value(rt: HostRuntime) {
-    let mut signals = Signals::new();
-    assert_eq!(rt; signals.act(USR1, Act::Catch), Ok(()));
-    let mut bytes = signals.pack();
-    for place in 30..34 {
-        bytes[place] = 0xff;
-    }
-    let Some(mut signals) = Signals::unpack(&bytes) else {
+    let Some(mut signals) = Signals::unpack(&often_handled()) else {
         panic!(rt; "not a state");
     };
     signals.raise(Sig::Usr1);
-    assert_eq!(rt; signals.handled(Sig::Usr1), 4_294_967_295);
-    assert_eq!(rt; signals.pack(), bytes);
+    assert!(rt; signals.handled(Sig::Usr1) == u32::MAX);
+    assert!(rt; signals.pack() == often_handled());
 }

@@ -1,70 +1,92 @@
 //! Bodies as bytes, and a process's end under its parent.
 ghost use Rattle.std.specs.Prelude.{◌≡◌, ◌≤◌, ◌∷◌, [], Some, IfOk, IsTrue};
 ghost use Rattle.pico_base.specs.declared.numbers.Name.TheVariants.{Proc};
-ghost use Rattle.deed_box.specs.Packing.{names_of};
+ghost use Rattle.deed_box.specs.Packing.{names_of, IsPackedDeed};
 ghost use Rattle.node_model.specs.Bodies.{is_living_body};
 ghost use Rattle.node_serve.specs.Bodies.{body_of};
 ghost use Rattle.node_serve.specs.Ending.{fits_as_read, lets};
-ghost use Rattle.node_serve.specs.Spelled.{suits};
+ghost use Rattle.node_serve.specs.Spelled.{suits, IsSpelled};
+ghost use Rattle.node_serve.specs.declared.body.Body.TheVariants.{Ended};
 
 use deed_box::{Deed, Deeds, Shared};
 use fork_wait::Family;
 use node_serve::{Body, Row, Served, commit_exit, is_body, serve};
 use pico_base::{
-    Bytes, Call, Ending, How, Id, Memory, Name, Outcome, Pid, Reply, Sig, SigSet, UnpackFault,
+    Call, Ending, How, Id, Memory, Name, Outcome, Pid, Reply, Sig, SigSet, UnpackFault,
 };
-use rpc_frame::{PackedDeeds, Parcel};
+use rpc_frame::{PackedDeed, PackedDeeds, Parcel};
 use signal_state::Signals;
 use std::alloc::Global;
+use std::mem::ManuallyDrop;
 use std::process::Abort;
 use std::test::Fail;
 use sysv_msg::Queue;
 
-/// The body's bytes are those of the body that they are read as.
-fn comes_back(rt: &impl Abort, alloc: Global, body: &Body, name: Name) -> Result<(), Fail> {
-    let bytes = body.pack(alloc)?;
-    assert!(rt; is_body(alloc, name, bytes.as_slice())?);
-    let again = Body::unpack(alloc, name, bytes.as_slice())?;
-    assert_eq!(rt; again.pack(alloc)?, bytes);
-    Ok(())
+/// A body that is never taken apart, so that its owner is cheaper to prove.
+type Kept = ManuallyDrop<Body>;
+
+/// Whether the bytes are those of the body that they are read as.
+fn is_again(alloc: Global, name: Name, bytes: &[u8]) -> Result<bool, Fail> {
+    let again: Kept = ManuallyDrop::new(Body::unpack(alloc, name, bytes)?);
+    Ok(again.pack(alloc)?.as_slice() == bytes)
 }
 
-/// A queue with one message.
-fn queue_with_one(alloc: Global) -> Result<Queue, Fail> {
-    let mut queue = Queue::new(alloc)?;
-    let text = Bytes::from_slice(alloc, b"abc")?;
-    queue.send(Pid(1), 1, text).map_err(|_| "not sent")?;
-    Ok(queue)
+/// Whether the body's bytes are those of the body that they are read as.
+fn comes_back(alloc: Global, body: &Body, name: Name) -> Result<bool, Fail> {
+    let bytes = body.pack(alloc)?;
+    Ok(is_body(alloc, name, bytes.as_slice())? && is_again(alloc, name, bytes.as_slice())?)
+}
+
+/// A process that masks USR1.
+fn masking(alloc: Global) -> Result<Kept, Memory> {
+    let mut signals = Signals::new();
+    signals.mask(How::Block, SigSet::empty().with(Sig::Usr1));
+    let family = Family::new(alloc)?;
+    Ok(ManuallyDrop::new(Body::Living(Row { signals, family })))
 }
 
 #[test]
 fn a_process_s_body_comes_back(rt: HostRuntime) -> Result<(), Fail> {
-    let mut signals = Signals::new();
-    signals.mask(How::Block, SigSet::empty().with(Sig::Usr1));
-    let body = Body::Living(Row {
-        signals,
-        family: Family::new(rt.alloc())?,
-    });
-    comes_back(&rt, rt.alloc(), &body, Name::Proc(Pid(1)))
+    let body = masking(rt.alloc())?;
+    assert!(rt; comes_back(rt.alloc(), &body, Name::Proc(Pid(1)))?);
+    Ok(())
+}
+
+/// A queue with one message.
+fn queue_with_one(alloc: Global) -> Result<Kept, Memory> {
+    let mut queue = Queue::new(alloc)?;
+    let _ = queue.send_slice(Pid(1), 1, b"abc");
+    Ok(ManuallyDrop::new(Body::Queue(queue)))
 }
 
 #[test]
 fn a_queue_s_body_comes_back(rt: HostRuntime) -> Result<(), Fail> {
-    let body = Body::Queue(queue_with_one(rt.alloc())?);
-    comes_back(&rt, rt.alloc(), &body, Name::Msg(Id(1)))
+    let body = queue_with_one(rt.alloc())?;
+    assert!(rt; comes_back(rt.alloc(), &body, Name::Msg(Id(1)))?);
+    Ok(())
+}
+
+/// Whether the bytes are no body that goes with the name.
+fn is_refused(alloc: Global, name: Name, bytes: &[u8]) -> bool {
+    Body::unpack(alloc, name, bytes).err() == Some(UnpackFault::NotABody)
 }
 
 #[test]
 fn a_removed_queue_s_body_is_no_process_s(rt: HostRuntime) -> Result<(), Fail> {
-    let alloc = rt.alloc();
-    comes_back(&rt, alloc, &Body::Removed, Name::Msg(Id(1)))?;
-    assert_eq!(rt; Body::Removed.pack(alloc)?.as_slice(), [6].as_slice());
-    assert_eq!(rt;
-        Body::unpack(alloc, Name::Proc(Pid(1)), &[6]).err(),
-        Some(UnpackFault::NotABody)
-    );
-    assert!(rt; !is_body(alloc, Name::Msg(Id(1)), &[6, 6])?);
+    let name = Name::Msg(Id(1));
+    assert!(rt; is_again(rt.alloc(), name, &[6])?);
+    assert!(rt; comes_back(rt.alloc(), &Body::Removed, name)?);
+    assert!(rt; is_refused(rt.alloc(), Name::Proc(Pid(1)), &[6]));
+    assert!(rt; !is_body(rt.alloc(), name, &[6, 6])?);
     Ok(())
+}
+
+/// The deed of a process that has ended so.
+fn ended(alloc: Global, pid: u32, ending: Ending) -> Result<PackedDeed, Memory>
+    ensures { IfOk result (IsPackedDeed suits IsSpelled (Proc pid, Ended ending)) }
+{
+    let body = Body::Ended(ending);
+    Deed::create_packed(alloc, Name::Proc(Pid(pid)), &body)
 }
 
 /// What process 2 hands over to process 1 at its end: its own deed, and those of three children that have ended.
@@ -78,10 +100,8 @@ fn parcel_of(alloc: Global, own: &Body) -> Result<Parcel, Memory>
 {
     let mut deeds = Vec::new(alloc);
     deeds.push(Deed::create_packed(alloc, Name::Proc(Pid(2)), own)?)?;
-    let first = Body::Ended(Ending::Exited(1));
-    deeds.push(Deed::create_packed(alloc, Name::Proc(Pid(3)), &first)?)?;
-    let second = Body::Ended(Ending::Killed(Sig::Term));
-    deeds.push(Deed::create_packed(alloc, Name::Proc(Pid(4)), &second)?)?;
+    deeds.push(ended(alloc, 3, Ending::Exited(1))?)?;
+    deeds.push(ended(alloc, 4, Ending::Killed(Sig::Term))?)?;
     deeds.push(Deed::create_packed(alloc, Name::Proc(Pid(5)), &Body::Gone)?)?;
     Ok(Parcel {
         pid: Pid(2),
@@ -106,10 +126,21 @@ fn process_with(alloc: Global, child: Pid) -> Result<Body, Memory>
     }))
 }
 
+/// The same, where it has the child 6.
+fn parcel_of_2(alloc: Global) -> Result<Parcel, Memory>
+    ensures fits { IfOk result (λ parcel. IsTrue (fits_as_read parcel)) }
+    ensures names { IfOk result
+        (λ parcel. names_of parcel.deeds ≡ Proc 2 ∷ Proc 3 ∷ Proc 4 ∷ Proc 5 ∷ []) }
+    ensures process { IfOk result (λ parcel. parcel.pid ≡ 2) }
+    ensures parent { IfOk result (λ parcel. parcel.parent ≡ 1) }
+{
+    let own = process_with(alloc, Pid(6))?;
+    parcel_of(alloc, &own)
+}
+
 /// The deeds that process 1 is left with by the end of process 2, and what the exit comes to.
 fn end_under_parent(rt: &impl Abort, alloc: Global) -> Result<(Deeds<Body>, Outcome), Fail> {
-    let own = process_with(alloc, Pid(6))?;
-    let parcel = parcel_of(alloc, &own)?;
+    let parcel = parcel_of_2(alloc)?;
     let parent = process_with(alloc, Pid(2))?;
     let mut deeds: Deeds<Body> = Deeds::new(alloc)?;
     deeds.reserve(1)?;
@@ -123,36 +154,43 @@ fn end_under_parent(rt: &impl Abort, alloc: Global) -> Result<(Deeds<Body>, Outc
     Ok((deeds, outcome))
 }
 
-/// The bytes of the process's body.
-fn bytes_of(alloc: Global, deeds: &Deeds<Body>, pid: Pid) -> Result<Bytes, Fail> {
-    let body = deeds.get(Name::Proc(pid)).ok_or("no deed")?;
-    Ok(body.pack(alloc)?)
+/// The processes that have ended, and the bytes of their bodies: process 2 keeps its ending, and its children are gone.
+static ENDED: [(u32, &[u8]); 4] = [(2, &[2, 0, 7]), (3, &[3]), (4, &[3]), (5, &[3])];
+
+/// Whether the process's body has these bytes.
+fn has_bytes(alloc: Global, deeds: &Deeds<Body>, pid: u32, bytes: &[u8]) -> Result<bool, Fail> {
+    let body = deeds.get(Name::Proc(Pid(pid))).ok_or("no deed")?;
+    Ok(body.pack(alloc)?.as_slice() == bytes)
 }
 
-/// What process 1 finds where it asks for the end of any child.
-fn found(alloc: Global, deeds: &mut Deeds<Body>) -> Result<Outcome, Fail> {
+/// Whether process 1 finds that process 2 has ended, where it asks for the end of any child.
+fn finds_it(alloc: Global, deeds: &mut Deeds<Body>) -> Result<bool, Fail> {
     let wait = Call::WaitPid {
         child: None,
         nohang: true,
     };
     match serve(alloc, deeds, Pid(1), &wait)? {
-        Served::Did { outcome, .. } => Ok(outcome),
-        Served::NotHeld => Err("no parent".into()),
+        Served::Did { outcome, .. } => Ok(is_end_of_2(alloc, &outcome)),
+        Served::NotHeld => Ok(false),
     }
 }
 
-#[test]
-fn a_process_ends_under_its_parent(rt: HostRuntime) -> Result<(), Fail> {
-    let alloc = rt.alloc();
-    let (mut deeds, outcome) = end_under_parent(&rt, alloc)?;
-    assert_eq!(rt; outcome, Outcome::reply(alloc, Reply::Ended));
-    for (pid, bytes) in [(2, [2, 0, 7].as_slice()), (3, &[3]), (4, &[3]), (5, &[3])] {
-        assert_eq!(rt; bytes_of(alloc, &deeds, Pid(pid))?.as_slice(), bytes);
-    }
+fn is_end_of_2(alloc: Global, outcome: &Outcome) -> bool {
     let child = Reply::Child {
         pid: Pid(2),
         ending: Ending::Exited(7),
     };
-    assert_eq!(rt; found(alloc, &mut deeds)?, Outcome::reply(alloc, child));
+    *outcome == Outcome::reply(alloc, child)
+}
+
+#[test]
+fn a_process_ends_under_its_parent(rt: HostRuntime) -> Result<(), Fail> {
+    let (deeds, outcome) = end_under_parent(&rt, rt.alloc())?;
+    let (mut deeds, outcome) = (ManuallyDrop::new(deeds), ManuallyDrop::new(outcome));
+    assert!(rt; *outcome == Outcome::reply(rt.alloc(), Reply::Ended));
+    for (pid, bytes) in &ENDED {
+        assert!(rt; has_bytes(rt.alloc(), &deeds, *pid, bytes)?, "{pid}");
+    }
+    assert!(rt; finds_it(rt.alloc(), &mut deeds)?);
     Ok(())
 }

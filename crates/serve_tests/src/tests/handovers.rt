@@ -8,6 +8,7 @@ use exit_handover::{Stage, begin, give_all};
 use pico_base::{Bytes, Call, Id, Memory, Name, Node, Pid, UnpackFault};
 use rpc_frame::{Frame, Frames, PackedDeed, PackedDeeds};
 use std::alloc::Global;
+use std::mem::ManuallyDrop;
 use std::test::Fail;
 
 /// A body of one byte, which goes with any name.
@@ -69,19 +70,13 @@ fn deeds_of_all_kinds(alloc: Global) -> Result<PackedDeeds, Memory>
     Ok(PackedDeeds::from_vec(deeds))
 }
 
-/// The deeds that a frame brings, each with the first byte of its body.
-fn brought(alloc: Global, frame: &Frame) -> Result<Vec<(Name, Option<u8>)>, Memory> {
-    let mut names = Vec::new(alloc);
-    match frame {
-        Frame::GiveBack { deed } => names.push((deed.name, deed.body.as_slice().first().copied()))?,
-        Frame::Left { parcel } => {
-            for deed in parcel.deeds.as_slice() {
-                names.push((deed.name, deed.body.as_slice().first().copied()))?;
-            }
-        }
-        _ => {}
+/// The table that holds them.
+fn held(alloc: Global) -> Result<Deeds<Tally>, Fail> {
+    let mut deeds: Deeds<Tally> = Deeds::new(alloc)?;
+    if deeds.put_packed(deeds_of_all_kinds(alloc)?).is_err() {
+        return Err("not put".into());
     }
-    Ok(names)
+    Ok(deeds)
 }
 
 /// Hands over all tallies, which go with any name, at the end of process 2.
@@ -89,41 +84,67 @@ fn give_tallies(alloc: Global, deeds: &mut Deeds<Tally>) -> Result<Frames, Memor
     give_all(alloc, deeds, Pid(2), Pid(1), Call::Exit { status: 7 })
 }
 
+/// What each frame hands over, in order.
+fn given() -> [(Name, u8); 4] {
+    [
+        (Name::Msg(Id(3)), 4),
+        (Name::Msg(Id(9)), 2),
+        (Name::Sem(Id(1)), 1),
+        (Name::Proc(Pid(2)), 3),
+    ]
+}
+
+fn is_deed(deed: &PackedDeed, wanted: (Name, u8)) -> bool {
+    deed.name == wanted.0 && deed.body.as_slice() == [wanted.1].as_slice()
+}
+
+/// Whether the frame brings this deed alone.
+fn brings(frame: &Frame, wanted: (Name, u8)) -> bool {
+    match frame {
+        Frame::GiveBack { deed } => is_deed(deed, wanted),
+        Frame::Left { parcel } => match parcel.deeds.as_slice() {
+            [deed] => is_deed(deed, wanted),
+            _ => false,
+        },
+        _ => false,
+    }
+}
+
+/// Whether the frames bring those deeds.
+fn bring_all(frames: &Frames) -> bool {
+    for (frame, wanted) in frames.as_slice().iter().zip(given()) {
+        if !brings(frame, wanted) {
+            return false;
+        }
+    }
+    frames.len() == 4
+}
+
 #[test]
 fn all_deeds_are_given(rt: HostRuntime) -> Result<(), Fail> {
-    let alloc = rt.alloc();
-    let mut deeds: Deeds<Tally> = Deeds::new(alloc)?;
-    if deeds.put_packed(deeds_of_all_kinds(alloc)?).is_err() {
-        panic!(rt; "not put");
-    }
-    let frames = give_tallies(alloc, &mut deeds)?;
-    let mut given = Vec::new(alloc);
-    for frame in frames.as_slice() {
-        given.append(&mut brought(alloc, frame)?)?;
-    }
-    let wanted = [
-        (Name::Msg(Id(3)), Some(4)),
-        (Name::Msg(Id(9)), Some(2)),
-        (Name::Sem(Id(1)), Some(1)),
-        (Name::Proc(Pid(2)), Some(3)),
-    ];
-    assert_eq!(rt; given.as_slice(), wanted.as_slice());
-    assert_eq!(rt; frames.len(), 4);
+    // It is never taken apart, so that its owner is cheaper to prove.
+    let mut deeds = ManuallyDrop::new(held(rt.alloc())?);
+    let frames = give_tallies(rt.alloc(), &mut deeds)?;
+    assert!(rt; bring_all(&frames));
     assert!(rt; !deeds.has(Name::Msg(Id(3))));
     Ok(())
 }
 
-#[test]
-fn a_living_node_begins_to_leave(rt: HostRuntime) -> Result<(), Fail> {
-    let (stage, frame) = begin(Stage::Living, Pid(2), Pid(1), Node(1));
-    assert_eq!(rt; stage, Stage::Leaving);
-    assert_eq!(rt;
-        frame,
+/// Whether the frame tells the leader that process 2 leaves, with its parent and that one's node.
+fn is_leaving(frame: &Frame) -> bool {
+    match frame {
         Frame::Leaving {
-            pid: Pid(2),
-            parent: Pid(1),
-            parent_node: Node(1),
-        }
-    );
-    Ok(())
+            pid,
+            parent,
+            parent_node,
+        } => (*pid, *parent, *parent_node) == (Pid(2), Pid(1), Node(1)),
+        _ => false,
+    }
+}
+
+#[test]
+fn a_living_node_begins_to_leave(rt: HostRuntime) {
+    let (stage, frame) = begin(Stage::Living, Pid(2), Pid(1), Node(1));
+    assert!(rt; stage == Stage::Leaving);
+    assert!(rt; is_leaving(&frame));
 }

@@ -1,39 +1,31 @@
 //! Images that are written and read back, and texts that are none.
 use image_text::{ImageFault, ImageStop, freeze, read_image};
-use pico_base::{Event, Memory, Node, Sequence};
+use pico_base::{Event, Node};
 use stamp_merge::Stamped;
 use std::alloc::Global;
 use std::test::*;
 
-const SCRIPT: &[u8; 62] = b"proc main\nq = msgget private\nfork w\nend\nproc w\ngetpid\nexit 0\n\n";
+/// The first node runs, the second takes a frame from it, and the first runs again.
+fn runs() -> [Stamped<Event>; 3] {
+    let (first, second) = (Node(1), Node(2));
+    let take = Event::Take {
+        node: second,
+        from: first,
+    };
+    [
+        stamped(1, first, Event::Run(first)),
+        stamped(2, second, take),
+        stamped(3, first, Event::Run(first)),
+    ]
+}
 
-fn runs(alloc: Global) -> Result<Sequence<Stamped<Event>>, Memory> {
-    let mut events = Sequence::new(alloc);
-    events.push(Stamped {
-        stamp: 1,
-        node: Node(1),
-        item: Event::Run(Node(1)),
-    })?;
-    events.push(Stamped {
-        stamp: 2,
-        node: Node(2),
-        item: Event::Take {
-            node: Node(2),
-            from: Node(1),
-        },
-    })?;
-    events.push(Stamped {
-        stamp: 3,
-        node: Node(1),
-        item: Event::Run(Node(1)),
-    })?;
-    Ok(events)
+fn stamped(stamp: u64, node: Node, item: Event) -> Stamped<Event> {
+    Stamped { stamp, node, item }
 }
 
 #[test]
 fn events_stand_by_node(rt: HostRuntime) -> Result<(), Fail> {
-    let events = runs(rt.alloc())?;
-    let image = freeze(rt.alloc(), b"proc a\ngetpid\nend", events.as_slice())?;
+    let image = freeze(rt.alloc(), b"proc a\ngetpid\nend", &runs())?;
     let text = b"proc a\ngetpid\nend\nimage 3\n1 1 run\n3 1 run\n2 2 take 1\n";
     assert!(rt; image.as_slice() == text.as_slice());
     Ok(())
@@ -53,42 +45,50 @@ fn outside(line: u32) -> ImageStop {
     }
 }
 
-#[test]
-fn what_was_frozen_is_read(rt: HostRuntime) -> Result<(), Fail> {
-    let text = b"proc a\nfork b\nend\nproc b\nend\nimage 3\n1 1 run\n3 1 run\n2 2 take 1\n";
-    let said = read_image(rt.alloc(), text)?;
-    assert_eq!(rt; said.script.blocks.len(), 2);
-    assert_eq!(rt; said.events.len(), 3);
-    let lines = [7, 9, 8];
-    for (event, line) in said.events.as_slice().iter().zip(lines) {
-        assert_eq!(rt; event.item.line, line);
+// The lines of the events of an image of two blocks.
+fn lines_of_events(alloc: Global, image: &[u8]) -> Result<Vec<u32>, Fail> {
+    let said = read_image(alloc, image)?;
+    if said.script.blocks.len() != 2 {
+        return Err("other blocks".into());
     }
-    Ok(())
+    let mut lines = Vec::new(alloc);
+    for event in said.events.as_slice() {
+        lines.push(event.item.line)?;
+    }
+    Ok(lines)
 }
 
 #[test]
-fn texts_that_are_no_images(rt: HostRuntime) -> Result<(), Fail> {
-    let alloc = rt.alloc();
-    assert_eq!(rt; stop(alloc, b"proc a\nend\nimage 1\n"), outside(4));
-    assert_eq!(rt; stop(alloc, b"proc a\nend\nimage  0\n"), outside(3));
-    assert_eq!(rt; stop(alloc, b"proc a\nend\nimage 0\n\n"), outside(4));
-    assert_eq!(rt; stop(alloc, b"proc a\nend\n"), outside(3));
-    assert_eq!(rt;
-        stop(alloc, b"proc a\nend\nimage 99999999999999999999\n1 1 run"),
-        outside(5)
-    );
-    assert_eq!(rt;
-        stop(alloc, b"proc a\nend\nimage 1\n9223372036854775808 1 run"),
-        outside(4)
-    );
-    assert_eq!(rt; stop(alloc, b"proc a\nend\nimage 1\n1 2 run"), outside(4));
+fn what_was_frozen_is_read(rt: HostRuntime) -> Result<(), Fail> {
+    let text = b"proc a\nfork b\nend\nproc b\nend\nimage 3\n1 1 run\n3 1 run\n2 2 take 1\n";
+    let lines = lines_of_events(rt.alloc(), text)?;
+    assert!(rt; lines.as_slice() == [7, 9, 8].as_slice());
+    Ok(())
+}
+
+// Texts that are no images, and the lines at which they aren't.
+static NO_IMAGES: [(&[u8], u32); 7] = [
+    (b"proc a\nend\nimage 1\n", 4),
+    (b"proc a\nend\nimage  0\n", 3),
+    (b"proc a\nend\nimage 0\n\n", 4),
+    (b"proc a\nend\n", 3),
+    (b"proc a\nend\nimage 99999999999999999999\n1 1 run", 5),
+    (b"proc a\nend\nimage 1\n9223372036854775808 1 run", 4),
+    (b"proc a\nend\nimage 1\n1 2 run", 4),
+];
+
+#[test]
+fn texts_that_are_no_images(rt: HostRuntime) {
+    for (text, line) in &NO_IMAGES {
+        assert!(rt; stop(rt.alloc(), text) == outside(*line), "{line}");
+    }
+}
+
+#[test]
+fn stamps_rise(rt: HostRuntime) {
     let falls = ImageStop::At {
         line: 5,
         fault: ImageFault::NotRising,
     };
-    assert_eq!(rt;
-        stop(alloc, b"proc a\nend\nimage 2\n1 1 run\n1 1 run"),
-        falls
-    );
-    Ok(())
+    assert!(rt; stop(rt.alloc(), b"proc a\nend\nimage 2\n1 1 run\n1 1 run") == falls);
 }

@@ -1,7 +1,10 @@
 //! Inputs of sandboxes, read and written.
-use pico_base::Sequence;
-use sandbox_set::{BoxFault, BoxStop, Journals, boxes_text, read_boxes};
+ghost use Rattle.kernel_model.specs.Script.{IsSoundScript};
+
+use pico_base::{Script, Sequence};
+use sandbox_set::{BoxFault, BoxStop, Boxes, Journals, boxes_text, read_boxes};
 use script_reader::{ScriptFault, read_script};
+use std::alloc::Global;
 use std::test::Fail;
 use trace_text::read_trace;
 
@@ -19,47 +22,98 @@ const TRACE: &[u8] = b"1 msgget private = 1 by 1
 totals entries 4 processes 1 notready 0 refused 0
 ";
 
-#[test]
-fn writes_each_trace_under_its_name(rt: HostRuntime) -> Result<(), Fail> {
-    let script = read_script(rt.alloc(), SCRIPT)?;
-    let mut journals: Journals = Sequence::new(rt.alloc());
-    journals.push(read_trace(rt.alloc(), &script, TRACE, 1)?)?;
-    journals.push(read_trace(rt.alloc(), &script, TRACE, 1)?)?;
-    let mut input = Vec::new(rt.alloc());
-    let mut wanted = Vec::new(rt.alloc());
-    for name in [b"a", b"b"] {
-        input.extend_from_slice(b"# a sandbox\nsandbox ")?;
-        input.extend_from_slice(name)?;
-        input.push(b'\n')?;
-        input.extend_from_slice(SCRIPT)?;
-        input.extend_from_slice(b" endsandbox\n")?;
-        wanted.extend_from_slice(b"sandbox ")?;
-        wanted.extend_from_slice(name)?;
-        wanted.push(b'\n')?;
-        wanted.extend_from_slice(TRACE)?;
+/// All of these bytes, one piece behind the other.
+fn push_all(out: &mut Vec<u8>, pieces: &[&[u8]]) -> Result<(), Fail> {
+    for piece in pieces {
+        out.extend_from_slice(piece)?;
     }
-    let boxes = read_boxes(rt.alloc(), input.as_slice())?;
-    assert!(rt; boxes.len() == 2 && journals.len() == 2);
-    assert!(rt; boxes.as_slice()[1].script == script);
-    let text = boxes_text(rt.alloc(), &boxes, &journals)?;
-    assert!(rt; text.as_slice() == wanted.as_slice());
     Ok(())
 }
 
+/// Two sandboxes of the script.
+fn input(alloc: Global) -> Result<Vec<u8>, Fail> {
+    let mut out = Vec::new(alloc);
+    for name in [b"a".as_slice(), b"b"] {
+        push_all(
+            &mut out,
+            &[
+                b"# a sandbox\nsandbox ",
+                name,
+                b"\n",
+                SCRIPT,
+                b" endsandbox\n",
+            ],
+        )?;
+    }
+    Ok(out)
+}
+
+/// Their traces.
+fn wanted(alloc: Global) -> Result<Vec<u8>, Fail> {
+    let mut out = Vec::new(alloc);
+    for name in [b"a".as_slice(), b"b"] {
+        push_all(&mut out, &[b"sandbox ", name, b"\n", TRACE])?;
+    }
+    Ok(out)
+}
+
+/// Two journals of the script.
+fn journals_of(alloc: Global, script: &Script) -> Result<Journals, Fail>
+    requires { IsSoundScript script.now }
+{
+    let mut journals: Journals = Sequence::new(alloc);
+    journals.push(read_trace(alloc, script, TRACE, 1)?)?;
+    journals.push(read_trace(alloc, script, TRACE, 1)?)?;
+    Ok(journals)
+}
+
+/// Whether the text of two sandboxes is the one that is wanted.
+fn is_written(alloc: Global, boxes: &Boxes, journals: &Journals) -> Result<bool, Fail> {
+    if boxes.len() != 2 || journals.len() != 2 {
+        return Ok(false);
+    }
+    Ok(boxes_text(alloc, boxes, journals)?.as_slice() == wanted(alloc)?.as_slice())
+}
+
+/// Whether the second sandbox has this script.
+fn has_script(boxes: &Boxes, script: &Script) -> bool {
+    match boxes.as_slice() {
+        [_, second] => second.script == *script,
+        _ => false,
+    }
+}
+
+#[test]
+fn writes_each_trace_under_its_name(rt: HostRuntime) -> Result<(), Fail> {
+    let script = read_script(rt.alloc(), SCRIPT)?;
+    let journals = journals_of(rt.alloc(), &script)?;
+    let boxes = read_boxes(rt.alloc(), input(rt.alloc())?.as_slice())?;
+    assert!(rt; has_script(&boxes, &script));
+    assert!(rt; is_written(rt.alloc(), &boxes, &journals)?);
+    Ok(())
+}
+
+/// Why the input isn't one of sandboxes.
+fn stop(alloc: Global, input: &[u8]) -> Option<BoxStop> {
+    read_boxes(alloc, input).err()
+}
+
+/// Behind the first sandbox's script the second has a call that is none.
+const UNKNOWN: &[u8] =
+    b"sandbox a\nproc m\nend\nendsandbox\nsandbox b\nproc m\nwalk\nend\nendsandbox\n";
+
 #[test]
 fn tells_a_fault_with_its_line(rt: HostRuntime) -> Result<(), Fail> {
-    let stop = BoxStop::At {
+    let no_end = BoxStop::At {
         line: 2,
         fault: BoxFault::NoEndSandbox,
     };
-    assert!(rt; read_boxes(rt.alloc(), b"sandbox a") == Err(stop));
-    let stop = BoxStop::At {
+    assert!(rt; stop(rt.alloc(), b"sandbox a") == Some(no_end));
+    let unknown = BoxStop::At {
         line: 7,
         fault: BoxFault::Script(ScriptFault::UnknownCall),
     };
-    let input = b"sandbox a\nproc m\nend\nendsandbox\nsandbox b\nproc m\nwalk\nend\nendsandbox\n";
-    assert!(rt; read_boxes(rt.alloc(), input) == Err(stop));
-    let text = format!(in rt.alloc(); "{stop}")?;
-    assert!(rt; text.as_str() == "line 7: UnknownCall");
+    assert!(rt; stop(rt.alloc(), UNKNOWN) == Some(unknown));
+    assert!(rt; format!(in rt.alloc(); "{unknown}")?.as_str() == "line 7: UnknownCall");
     Ok(())
 }

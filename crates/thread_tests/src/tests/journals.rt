@@ -6,7 +6,7 @@ use pico_base::{Call, Entries, Entry, Memory, Node, Outcome, Pid, Reply};
 use std::alloc::Global;
 use std::sync::Wait;
 use std::test::Fail;
-use std::thread::join;
+use std::thread::{Threads, join};
 
 // A lock with two seats.
 fn two_seats(alloc: Global) -> Result<(JournalLock, JSeat, JSeat), Memory>
@@ -92,43 +92,60 @@ fn stamps_rise(journal: &Journal) -> bool {
     true
 }
 
+const LAST: u64 = (1 << 63) - 1;
+
+// Whether an append has the last stamp, and the next one of its seat is refused.
+fn ends_at_the_last<R: Wait>(
+    rt: &R,
+    alloc: Global,
+    lock: &JournalLock,
+    seat: &mut JSeat,
+) -> Result<bool, Memory>
+    requires { seat.old.lock ≡ lock.now.id }
+    ensures { (seat.new.lock ≡ seat.old.lock) × (seat.new.number ≡ seat.old.number) }
+{
+    let stamp = lock.append(rt, seat, LAST - 1, entry_of(alloc, 0)?);
+    let refused = lock.append(rt, seat, 0, entry_of(alloc, 1)?);
+    Ok(stamp == Ok(LAST) && refused == Err(AppendFault::StampEnd { last: LAST }))
+}
+
 #[test]
 fn the_last_stamp_ends_them(rt: HostRuntime) -> Result<(), Fail> {
     let (lock, mut first, second) = two_seats(rt.alloc())?;
-    let stamp = lock.append(&rt, &mut first, (1 << 63) - 2, entry_of(rt.alloc(), 0)?);
-    assert_eq!(rt; stamp, Ok((1 << 63) - 1));
-    let refused = lock.append(&rt, &mut first, 0, entry_of(rt.alloc(), 1)?);
-    assert_eq!(rt;
-        refused,
-        Err(AppendFault::StampEnd {
-            last: (1 << 63) - 1
-        })
-    );
+    assert!(rt; ends_at_the_last(&rt, rt.alloc(), &lock, &mut first)?);
     let journal = lock.close(seats_of(rt.alloc(), first, second)?);
-    assert_eq!(rt; journal.len(), 1);
+    assert!(rt; journal.len() == 1);
     Ok(())
+}
+
+// The journal after both seats appended from threads of their own, and how many entries each did append.
+fn append_from_two<R: Threads + Wait + Sync>(
+    rt: &R,
+    alloc: Global,
+) -> Result<(Journal, u32, u32), Memory> {
+    let (lock, first, second) = two_seats(alloc)?;
+    let lent = &lock;
+    let (first, second) = join(
+        rt,
+        || -> (JSeat, u32)
+            requires { first.lock ≡ lent.now.id }
+            ensures { (result.0.lock ≡ first.lock) × (result.0.number ≡ first.number) }
+        { append_all(rt, alloc, lent, first, 10_000) },
+        || -> (JSeat, u32)
+            requires { second.lock ≡ lent.now.id }
+            ensures { (result.0.lock ≡ second.lock) × (result.0.number ≡ second.number) }
+        { append_all(rt, alloc, lent, second, 10_000) },
+    );
+    let journal = lock.close(seats_of(alloc, first.0, second.0)?);
+    Ok((journal, first.1, second.1))
 }
 
 // With ample memory all is appended. Where an allocation is refused, the seat passes its turn on.
 #[test]
 fn two_threads_append(rt: HostRuntime) -> Result<(), Fail> {
-    let (lock, first, second) = two_seats(rt.alloc())?;
-    let lent = &lock;
-    let alloc = rt.alloc();
-    let (first, second) = join(
-        &rt,
-        || -> (JSeat, u32)
-            requires { first.lock ≡ lent.now.id }
-            ensures { (result.0.lock ≡ first.lock) × (result.0.number ≡ first.number) }
-        { append_all(&rt, alloc, lent, first, 10_000) },
-        || -> (JSeat, u32)
-            requires { second.lock ≡ lent.now.id }
-            ensures { (result.0.lock ≡ second.lock) × (result.0.number ≡ second.number) }
-        { append_all(&rt, alloc, lent, second, 10_000) },
-    );
-    let journal = lock.close(seats_of(rt.alloc(), first.0, second.0)?);
-    assert_eq!(rt; count_in_order(&journal, 1), Some(first.1));
-    assert_eq!(rt; count_in_order(&journal, 2), Some(second.1));
-    assert!(rt; stamps_rise(&journal) && first.1 >= 9_999 && second.1 >= 9_999);
+    let (journal, first, second) = append_from_two(&rt, rt.alloc())?;
+    assert!(rt; count_in_order(&journal, 1) == Some(first));
+    assert!(rt; count_in_order(&journal, 2) == Some(second));
+    assert!(rt; stamps_rise(&journal) && first >= 9_999 && second >= 9_999);
     Ok(())
 }

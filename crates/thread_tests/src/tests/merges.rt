@@ -41,7 +41,7 @@ fn digits(merged: &Merged<u8>) -> u64 {
 #[test]
 fn no_logs_have_no_items(rt: HostRuntime) -> Result<(), Fail> {
     let merged: Merged<u8> = merge(rt.alloc(), Logs::new(rt.alloc()))?;
-    assert_eq!(rt; merged.len(), 0);
+    assert!(rt; merged.len() == 0);
     Ok(())
 }
 
@@ -51,7 +51,7 @@ fn at_one_stamp_the_lower_node_comes_first(rt: HostRuntime) -> Result<(), Fail> 
     let mut logs = Logs::new(alloc);
     logs.push(two(alloc, Node(2), 1, 3)?)?;
     logs.push(two(alloc, Node(1), 3, 4)?)?;
-    assert_eq!(rt; digits(&merge(alloc, logs)?), 2121);
+    assert!(rt; digits(&merge(alloc, logs)?) == 2121);
     Ok(())
 }
 
@@ -63,6 +63,6 @@ fn three_logs_and_one_without_items(rt: HostRuntime) -> Result<(), Fail> {
     logs.push(Sequence::new(alloc))?;
     logs.push(two(alloc, Node(1), 3, 5)?)?;
     logs.push(two(alloc, Node(2), 3, 4)?)?;
-    assert_eq!(rt; digits(&merge(alloc, logs)?), 312321);
+    assert!(rt; digits(&merge(alloc, logs)?) == 312321);
     Ok(())
 }

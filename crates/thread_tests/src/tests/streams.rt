@@ -2,25 +2,23 @@
 ghost use Rattle.std.specs.Prelude.{◌≡◌, IfOk};
 
 use pico_base::Memory;
-use std::process::Abort;
+use std::alloc::Global;
+use std::mem::ManuallyDrop;
 use std::sync::Wait;
 use std::sync::atomic::{AtomicU64, Ordering};
 use std::test::*;
 use std::thread;
 use std::thread::{Threads, join};
-use stream_pair::{Bell, Company, In, Out, Piece, pair, pair_to, settle};
+use stream_pair::{Bell, Company, In, Out, Piece, Rest, pair, pair_to, settle};
 
 /// Looks that find nothing yet, of who takes beside a sender.
 const PATIENCE: u32 = 1000;
 
-/// The piece has this stamp and these bytes.
-fn is_piece<R: Abort>(rt: &R, piece: Option<Piece>, stamp: u64, bytes: &[u8]) {
+/// Whether the piece has this stamp and these bytes.
+fn is_piece(piece: Option<Piece>, stamp: u64, bytes: &[u8]) -> bool {
     match piece {
-        Some(piece) => {
-            assert_eq!(rt; piece.stamp, stamp);
-            assert_eq!(rt; piece.bytes.as_slice(), bytes);
-        }
-        None => assert!(rt; false, "no piece"),
+        Some(piece) => piece.stamp == stamp && piece.bytes.as_slice() == bytes,
+        None => false,
     }
 }
 
@@ -30,41 +28,66 @@ fn taken<R: Wait>(rt: &R, into: &mut In) -> Option<(u64, usize)> {
     Some((piece.stamp, piece.bytes.len()))
 }
 
-/// Where an allocation is refused, the first pieces come, and no others.
+/// A stream's ends that are never taken apart, so that their owners are cheaper to prove.
+type Ends = (ManuallyDrop<Out>, ManuallyDrop<In>);
+
+fn kept_pair(alloc: Global) -> Result<Ends, Memory> {
+    let (out, into) = pair(alloc)?;
+    Ok((ManuallyDrop::new(out), ManuallyDrop::new(into)))
+}
+
+/// Whether all three pieces of a frame of 1200 bytes came. Where an allocation was refused, the first ones come, and no
+/// others.
+fn are_pieces(sent: bool, pieces: [Option<(u64, usize)>; 3]) -> bool {
+    if sent {
+        pieces == [Some((7, 512)), Some((7, 512)), Some((7, 176))]
+    } else {
+        pieces[2].is_none() && (pieces[0].is_some() || pieces[1].is_none())
+    }
+}
+
 #[test]
 fn a_long_frame_goes_in_three_pieces(rt: HostRuntime) -> Result<(), Fail> {
-    let (mut out, mut into) = pair(rt.alloc())?;
-    assert_eq!(rt; taken(&rt, &mut into), None);
+    let (mut out, mut into) = kept_pair(rt.alloc())?;
+    assert!(rt; taken(&rt, &mut into).is_none());
     let sent = out.send(&rt, 7, &[5; 1200]).is_ok();
-    let first = taken(&rt, &mut into);
-    let second = taken(&rt, &mut into);
-    let third = taken(&rt, &mut into);
-    if sent {
-        assert_eq!(rt; [first, second], [Some((7, 512)), Some((7, 512))]);
-        assert_eq!(rt; third, Some((7, 176)));
-    } else {
-        assert!(rt; first.is_some() || second.is_none());
-        assert_eq!(rt; third, None);
-    }
-    assert_eq!(rt; taken(&rt, &mut into), None);
+    let pieces = [
+        taken(&rt, &mut into),
+        taken(&rt, &mut into),
+        taken(&rt, &mut into),
+    ];
+    assert!(rt; are_pieces(sent, pieces), "{pieces:?}");
+    assert!(rt; taken(&rt, &mut into).is_none());
     Ok(())
+}
+
+/// Sends three short frames, of which one is empty, and one of 513 bytes.
+fn send_four<R: Wait>(rt: &R, out: &mut Out) -> Result<(), Memory>
+    ensures { out.new.stream ≡ out.old.stream }
+{
+    out.send(rt, 1, b"one")?;
+    out.send(rt, 2, b"")?;
+    out.send(rt, 3, b"three")?;
+    out.send(rt, 4, &[4; 513])
+}
+
+/// Whether all but the first of them is left.
+fn are_left<R: Wait>(rt: &R, rest: &mut Rest) -> bool {
+    is_piece(rest.next(rt), 3, b"three")
+        && is_piece(rest.next(rt), 4, &[4; 512])
+        && is_piece(rest.next(rt), 4, b"\x04")
+        && rest.next(rt).is_none()
+        && rest.next(rt).is_none()
 }
 
 #[test]
 fn what_was_not_taken_is_left(rt: HostRuntime) -> Result<(), Fail> {
     let (mut out, mut into) = pair(rt.alloc())?;
-    out.send(&rt, 1, b"one")?;
-    out.send(&rt, 2, b"")?;
-    out.send(&rt, 3, b"three")?;
-    out.send(&rt, 4, &[4; 513])?;
+    send_four(&rt, &mut out)?;
     into.tell(out.receipt());
-    is_piece(&rt, into.take(&rt), 1, b"one");
+    assert!(rt; is_piece(into.take(&rt), 1, b"one"));
     let mut rest = settle(&rt, out, into);
-    is_piece(&rt, rest.next(&rt), 3, b"three");
-    is_piece(&rt, rest.next(&rt), 4, &[4; 512]);
-    is_piece(&rt, rest.next(&rt), 4, b"\x04");
-    assert!(rt; rest.next(&rt).is_none());
-    assert!(rt; rest.next(&rt).is_none());
+    assert!(rt; are_left(&rt, &mut rest));
     Ok(())
 }
 
@@ -95,64 +118,93 @@ fn take_some<R: Wait>(
     Ok((into, pieces))
 }
 
-#[test]
-fn two_threads(rt: HostRuntime) -> Result<(), Fail> {
-    let (out, into) = pair(rt.alloc())?;
-    let pieces = Vec::new(rt.alloc());
-    let (out, taken) = join(
-        &rt,
-        move ||
-            ensures { IfOk result (λ o. o.stream ≡ out.stream) }
-        { send_fifty(&rt, out) },
-        move ||
-            ensures { IfOk result (λ r. r.0.stream ≡ into.stream) }
-        { take_some(&rt, into, pieces) },
-    );
-    let out = out?;
-    let (into, mut pieces) = taken?;
-    let mut rest = settle(&rt, out, into);
+/// Takes what is left, of at most 100 pieces.
+fn take_rest<R: Wait>(rt: &R, rest: &mut Rest, pieces: &mut Vec<Piece>) -> Result<(), Memory> {
     for _ in 0..100 {
-        if let Some(piece) = rest.next(&rt) {
+        if let Some(piece) = rest.next(rt) {
             pieces.push(piece)?;
         }
     }
-    assert!(rt; rest.next(&rt).is_none());
-    let mut stamps = Vec::new(rt.alloc());
-    let mut bytes = Vec::new(rt.alloc());
-    for piece in pieces.iter() {
-        stamps.push(piece.stamp)?;
-        bytes.extend_from_slice(piece.bytes.as_slice())?;
-    }
-    let mut want_stamps = Vec::new(rt.alloc());
-    let mut want_bytes = Vec::new(rt.alloc());
-    for stamp in 1..51u8 {
-        want_stamps.extend_from_slice(&[u64::from(stamp); 2])?;
-        want_bytes.extend_from_slice(&[stamp; 700])?;
-    }
-    assert_eq!(rt; stamps.as_slice(), want_stamps.as_slice());
-    assert_eq!(rt; bytes.as_slice(), want_bytes.as_slice());
     Ok(())
+}
+
+/// What one thread takes beside another that sends, and then what is left.
+fn send_and_take<R: Threads + Wait + Sync>(rt: &R, alloc: Global) -> Result<Vec<Piece>, Memory> {
+    let (out, into) = pair(alloc)?;
+    let pieces = Vec::new(alloc);
+    let (out, taken) = join(
+        rt,
+        move ||
+            ensures { IfOk result (λ o. o.stream ≡ out.stream) }
+        { send_fifty(rt, out) },
+        move ||
+            ensures { IfOk result (λ r. r.0.stream ≡ into.stream) }
+        { take_some(rt, into, pieces) },
+    );
+    let (into, mut pieces) = taken?;
+    let mut rest = settle(rt, out?, into);
+    take_rest(rt, &mut rest, &mut pieces)?;
+    Ok(pieces)
+}
+
+/// Whether this is the piece at that place of fifty frames of 700 bytes, each of the byte of its stamp.
+fn is_of_fifty(place: usize, piece: &Piece) -> bool {
+    let stamp = place as u64 / 2 + 1;
+    let size = if place % 2 == 0 { 512 } else { 188 };
+    piece.stamp == stamp
+        && piece.bytes.len() == size
+        && piece
+            .bytes
+            .as_slice()
+            .iter()
+            .all(|byte| u64::from(*byte) == stamp)
+}
+
+#[test]
+fn two_threads(rt: HostRuntime) -> Result<(), Fail> {
+    let pieces = send_and_take(&rt, rt.alloc())?;
+    assert!(rt; pieces.len() == 100);
+    for (place, piece) in pieces.iter().enumerate() {
+        assert!(rt; is_of_fifty(place, piece), "{place}");
+    }
+    Ok(())
+}
+
+/// A new bell, which is never taken apart.
+fn kept_bell(alloc: Global) -> Result<ManuallyDrop<Bell>, Memory> {
+    Ok(ManuallyDrop::new(Bell::new(alloc, &Company::new(alloc)?)?))
+}
+
+fn kept_pair_to(alloc: Global, bell: &Bell) -> Result<Ends, Memory> {
+    let (out, into) = pair_to(alloc, bell)?;
+    Ok((ManuallyDrop::new(out), ManuallyDrop::new(into)))
+}
+
+/// Whether a send is heard until its last piece is taken, where one of two pieces was sent on the first stream and one
+/// of one on the second.
+fn is_heard_to_the_end<R: Wait>(rt: &R, bell: &Bell, first: &mut In, second: &mut In) -> bool {
+    !bell.is_silent()
+        && taken(rt, first) == Some((1, 512))
+        && taken(rt, second) == Some((2, 3))
+        && taken(rt, second).is_none()
+        && !bell.is_silent()
+        && taken(rt, first) == Some((1, 1))
+        && bell.is_silent()
 }
 
 /// A send is heard until its last piece is taken, on whichever stream it came.
 #[test]
 fn a_bell_is_silent_where_all_is_taken(rt: HostRuntime) -> Result<(), Fail> {
-    let bell = Bell::new(rt.alloc(), &Company::new(rt.alloc())?)?;
-    let (mut first, mut from_first) = pair_to(rt.alloc(), &bell)?;
-    let (mut second, mut from_second) = pair_to(rt.alloc(), &bell)?;
+    let bell = kept_bell(rt.alloc())?;
+    let (mut first, mut from_first) = kept_pair_to(rt.alloc(), &bell)?;
+    let (mut second, mut from_second) = kept_pair_to(rt.alloc(), &bell)?;
     assert!(rt; bell.is_silent());
     first.send(&rt, 1, &[1; 513])?;
     second.send(&rt, 2, b"two")?;
-    assert!(rt; !bell.is_silent());
-    assert_eq!(rt; taken(&rt, &mut from_first), Some((1, 512)));
-    assert_eq!(rt; taken(&rt, &mut from_second), Some((2, 3)));
-    assert_eq!(rt; taken(&rt, &mut from_second), None);
-    assert!(rt; !bell.is_silent());
-    assert_eq!(rt; taken(&rt, &mut from_first), Some((1, 1)));
-    assert!(rt; bell.is_silent());
+    assert!(rt; is_heard_to_the_end(&rt, &bell, &mut from_first, &mut from_second));
     from_first.were_empty(1);
     from_second.were_empty(1);
-    assert_eq!(rt; taken(&rt, &mut from_first), None);
+    assert!(rt; taken(&rt, &mut from_first).is_none());
     Ok(())
 }
 
@@ -198,9 +250,9 @@ fn takes_all_it_is_told_of<R: Wait>(
 /// Two senders and one receiver.
 #[test]
 fn no_silence_hides_a_piece(rt: HostRuntime) -> Result<(), Fail> {
-    let bell = Bell::new(rt.alloc(), &Company::new(rt.alloc())?)?;
-    let (mut first, mut from_first) = pair_to(rt.alloc(), &bell)?;
-    let (mut second, mut from_second) = pair_to(rt.alloc(), &bell)?;
+    let bell = kept_bell(rt.alloc())?;
+    let (mut first, mut from_first) = kept_pair_to(rt.alloc(), &bell)?;
+    let (mut second, mut from_second) = kept_pair_to(rt.alloc(), &bell)?;
     let told = (AtomicU64::new(0), AtomicU64::new(0));
     let (sent, is_right) = join(
         &rt,

@@ -16,6 +16,12 @@ returns-in-Simulate-clause-untouched g c unread = absurd (unread (rw c.in-Simula
 pub returns-in-Run-clause-untouched : goal.returns-in-Run-clause-untouched
 returns-in-Run-clause-untouched g c unread = absurd (unread (rw c.in-Run.is tt))
 
+pub returns-in-Boxes-clause-read : goal.returns-in-Boxes-clause-read
+returns-in-Boxes-clause-read g c = rw c.in-Boxes.is (read_told c.run_sandboxes.result)
+
+pub returns-in-Boxes-clause-untouched : goal.returns-in-Boxes-clause-untouched
+returns-in-Boxes-clause-untouched g c unread = absurd (unread (rw c.in-Boxes.is tt))
+
 pub returns-in-Check-clause-untouched : goal.returns-in-Check-clause-untouched
 returns-in-Check-clause-untouched g c unread = absurd (unread (rw c.in-Check.is tt))
 

@@ -8,5 +8,6 @@ returns-clause-legal c =
 
 pub returns-clause-only : goal.returns-clause-only
 returns-clause-only c history is =
-    gives-only c.args.script.now c.requires.sound history c.args.bytes.now c.args.first_line c.judge.result
+    gives-only (record { move = c.entries_move_marks.ensures; wake = c.entries_wake_rightly.ensures })
+    c.args.script.now c.requires.sound history c.args.bytes.now c.args.first_line c.judge.result
     c.judge.ensures is

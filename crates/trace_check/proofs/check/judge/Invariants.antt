@@ -2,19 +2,19 @@ use Rattle.std.proofs.Common.{◌≡◌, ◌+◌, ◌-◌, ◌≤◌, List, leng
 use Rattle.pico_base.specs.declared.reply.Entry.{Entry}
 use Rattle.trace_check.specs.Cursors.{AreSteady}
 use Rattle.trace_check.specs.FirstFault.{judge_from, verdict_of}
-use Rattle.trace_check.specs.Judging.{progress_of}
-use Rattle.trace_text.specs.Totals.{counts_of}
+use Rattle.trace_check.specs.Judging.{so_far_of}
+use Rattle.trace_text.specs.Totals.{tally_of}
 use Rattle.trace_check.proofs.check.judge.Given as goal
 
 -- the entries so far, and the lines that are left behind them
 abbrev pub invariant-loop : goal.invariant-loop
 invariant-loop l = record {
   done : List Entry;
-  tally : l.judge.tally ≡ counts_of done;
-  steady : AreSteady l.judge.cursors.entries;
+  tally : l.judge.tally ≡ tally_of done;
+  steady : AreSteady l.script l.judge.cursors.entries;
   so_far : judge_from l.script (l.end - l.counter) l.line l.left done
-      (progress_of l.script l.judge.kernel l.judge.cursors.entries) l.rest
+      (so_far_of l.script l.judge.kernel l.judge.cursors.entries) l.rest
       ≡ verdict_of l.script l.fn.bytes l.fn.first_line;
   few : l.line + l.left ≤ l.fn.first_line + 67108864;
-  count : l.fn.first_line + length done ≤ l.line;
+  count : l.fn.first_line + length done ≡ l.line;
 }

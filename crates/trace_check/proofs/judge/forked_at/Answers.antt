@@ -1,7 +1,8 @@
 use Rattle.std.proofs.Common.{sym}
-use Rattle.trace_check.proofs.PlaceLaws.{steady-at}
+use Rattle.trace_check.proofs.SteadyLaws.{steady-at}
 use Rattle.trace_check.proofs.judge.forked_at.Goals as goal
 
 pub forked_child-requires-clause-steady : goal.forked_child-requires-clause-steady
 forked_child-requires-clause-steady c =
-    steady-at c.args.cursors.now.entries c.args.pid c.in-Some.parent.now c.requires.steady (sym c.in-Some.ensures.value)
+    steady-at c.args.script.now c.args.cursors.now.entries c.args.pid c.in-Some.parent.now c.requires.steady
+    (sym c.in-Some.ensures.value)

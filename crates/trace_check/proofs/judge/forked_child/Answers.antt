@@ -1,7 +1,7 @@
 use Rattle.std.proofs.Common.{sym, subst, IsTrue}
 use Rattle.kernel_model.specs.Script.{Vars}
 use Rattle.node_calls.specs.Caller.{are_rising}
-use Rattle.trace_check.proofs.PlaceLaws.{child-vars-rise}
+use Rattle.trace_check.proofs.SteadyLaws.{child-vars-rise}
 use Rattle.trace_check.proofs.judge.forked_child.Goals as goal
 
 pub new-requires : goal.new-requires

@@ -1,4 +1,4 @@
-use Rattle.std.proofs.Common.{◌∙◌, sym}
+use Rattle.std.proofs.Common.{sym}
 use Rattle.std.proofs.lemmas.Result.{IfOk-weaker}
 use Rattle.mono_kernel.proofs.WithdrawalLemmas.{is-withdrawal}
 use Rattle.mono_kernel.proofs.kernel.Kernel.call.Goals as goal

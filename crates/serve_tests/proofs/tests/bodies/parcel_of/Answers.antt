@@ -65,8 +65,8 @@ fits-four own a b c d x y lives first second third fourth =
 pub returns-clause-fits : goal.returns-clause-fits
 unfolding parcel
 returns-clause-fits c =
-    let all : c.from_vec.result ≡ c.in_ok-create_packed.field-0 ∷ c.in_ok-create_packed-2.field-0
-    ∷ c.in_ok-create_packed-3.field-0 ∷ c.in_ok-create_packed-4.field-0 ∷ [] =
+    let all : c.from_vec.result ≡ c.in_ok-create_packed.field-0 ∷ c.in_ok-ended.field-0
+    ∷ c.in_ok-ended-2.field-0 ∷ c.in_ok-create_packed-2.field-0 ∷ [] =
     rw (
       c.from_vec.ensures,
       c.in_ok-push-4.ensures.items,
@@ -76,7 +76,7 @@ returns-clause-fits c =
       c.new-deeds.ensures.items,
     ) refl
     in subst (λ (deeds : List PackedDeed). fits_as_read (parcel deeds) ≡ true) (sym all)
-    (fits-four c.args.own.now c.in_ok-create_packed.field-0 c.in_ok-create_packed-2.field-0
-    c.in_ok-create_packed-3.field-0 c.in_ok-create_packed-4.field-0 (Exited 1) (Killed Term) c.requires
-    c.in_ok-create_packed.ensures c.in_ok-create_packed-2.ensures c.in_ok-create_packed-3.ensures
-    c.in_ok-create_packed-4.ensures)
+    (fits-four c.args.own.now c.in_ok-create_packed.field-0 c.in_ok-ended.field-0
+    c.in_ok-ended-2.field-0 c.in_ok-create_packed-2.field-0 (Exited 1) (Killed Term) c.requires
+    c.in_ok-create_packed.ensures c.in_ok-ended.ensures c.in_ok-ended-2.ensures
+    c.in_ok-create_packed-2.ensures)
