@@ -1,19 +1,31 @@
 -- The bytes that are read as a queue are its body, and its body is read as it.
-use Rattle.std.proofs.Common.{◌≡◌, ◌∙◌, ℕ, Bool, true, false, cond, not, ◌&&◌, eqb, List, [], ◌∷◌, ◌++◌, length, Option, Some, None, is_some, refl, sym, ap, subst, append-nil}
+use Rattle.std.proofs.Common.{◌≡◌, ◌∙◌, ℕ, ◌≤◌, Bool, true, false, not, ◌&&◌, eqb, List, [], ◌∷◌, ◌++◌, length, Option, Some, None, is_some, refl, sym, ap, subst, append-nil, arith}
 use Rattle.std.specs.List.{list_all, AllByRecursion}
 use Rattle.std.proofs.lemmas.Bool.{and_from, and_parts, eqb-true}
+use Rattle.std.proofs.lemmas.Bool.Decides.{nat_tests}
 use Rattle.pico_base.specs.Options.{◌>>=◌}
+use Rattle.pico_base.specs.declared.fault.UnpackFault.{UnpackFault}
+use Rattle.pico_base.specs.declared.fault.UnpackFault.TheVariants.{Memory, NotABody}
 use Rattle.kernel_model.specs.Queue.{Queue}
 use Rattle.waiting_model.specs.declared.callers.Waiting.{Waiting}
 use Rattle.waiting_model.specs.Waiters.{Attempt, Awaited, IsSettled, awaited}
 use Rattle.waiting_model.specs.Queue.{try_queue}
-use Rattle.body_fields.specs.Fields.{IsPacked, TellsPacked, whole}
-use Rattle.body_fields.proofs.Fields.{IsBytes, IsBytes-rest, Takes, Takes-then, bind_some, guard_ended, guard_then, some_is, whole_is}
+use Rattle.body_fields.specs.Fields.{whole}
+use Rattle.body_fields.proofs.Fields.{IsBytes, IsBytes-rest, bind_some, guard_ended, guard_then, some_is, whole_is}
+use Rattle.frame_bytes.specs.Limits.{is_nonzero}
+use Rattle.frame_bytes.specs.Readers.{Fails}
+use Rattle.waiter_fields.specs.Ranges.{IsWaiter}
 use Rattle.waiter_fields.specs.Waiters.{waiters_at, waiters_field}
 use Rattle.waiter_fields.proofs.WaiterLaws.{waiters-inverse}
 use Rattle.awaited_msg.specs.Body.{IsBodyOf, IsWaitingCall, body, queue_code}
-use Rattle.awaited_msg.specs.Reading.{call_at, coded_at, is_settled, queue_at, settled_at, state_at, waits}
+use Rattle.awaited_msg.specs.Limits.{AreParked, IsParked, IsWithinLimits}
+use Rattle.awaited_msg.specs.Reading.{call_at, fields_at, is_settled, queue_at, settled_at, settled_or_none, state_at, waits}
 use Rattle.awaited_msg.proofs.BodyLaws.{IsState, call-inverse, state-inverse, state_field}
+
+-- a queue whose own fields have a spelling is within the limits
+pub limits-of : (q : Queue) → IsState q → IsWithinLimits q
+limits-of q s =
+    record { qbytes = s.qbytes; count = s.messages.few; bytes = s.messages.bytes; each = s.messages.each }
 
 -- ---- whether no call could go on
 
@@ -37,87 +49,96 @@ is-settled q (w ∷ ws) h =
 
 -- ---- what is read is the body
 
-coded-takes : (bytes : List ℕ) (x : Queue × List ℕ) → IsBytes bytes → coded_at bytes ≡ Some x
-    → Takes bytes (queue_code ∷ state_field x.0) x.1 × IsState x.0
-coded-takes [] x fits e = absurd cc
-coded-takes (c ∷ bytes) x fits e =
-    let g = guard_then (eqb c queue_code) (state_at bytes) x e in
-    let code : c ≡ queue_code = eqb-true c queue_code g.0 in
-    let t = state-inverse.takes bytes x (IsBytes-rest c bytes fits) g.1 in
-    (
-      record {
-        parts = ap (λ (n : ℕ). n ∷ bytes) code ∙ ap (λ (r : List ℕ). queue_code ∷ r) t.0.parts;
-        rest_fits = t.0.rest_fits;
-      },
-      t.1,
-    )
-
--- the queue that is read from bytes has them as its body
-pub body-takes : (bytes : List ℕ) (q : Awaited Queue) → IsBytes bytes → queue_at bytes ≡ Some q → IsBodyOf q bytes
-unfolding queue_at settled_at
-body-takes bytes q fits e =
-    let a = bind_some (coded_at bytes) (λ s. settled_at s.0 s.1) q e in
+fields-take : (bytes : List ℕ) (q : Awaited Queue) → IsBytes bytes → fields_at bytes ≡ Some q
+    → IsBodyOf q (queue_code ∷ bytes)
+unfolding fields_at settled_at
+fields-take bytes q fits e =
+    let a = bind_some (state_at bytes) (λ s. settled_at s.0 s.1) q e in
     let s = a.0 in
-    let b = bind_some (whole (waiters_at call_at s.1))
-    (λ ws. cond (is_settled (awaited s.0 ws)) (Some (awaited s.0 ws)) None) q a.2 in
+    let b = bind_some (whole (waiters_at call_at s.1)) (λ ws. settled_or_none (awaited s.0 ws)) q a.2 in
     let ws = b.0 in
     let g = guard_ended (is_settled (awaited s.0 ws)) (awaited s.0 ws) q b.2 in
-    let t = coded-takes bytes s fits a.1 in
+    let t = state-inverse.takes bytes s fits a.1 in
     let read = whole_is (waiters_at call_at s.1) ws b.1 in
     let w = (waiters-inverse IsWaitingCall call_at call-inverse).takes s.1 (ws, []) t.0.rest_fits read in
     let behind : s.1 ≡ waiters_field ws = w.0.parts ∙ append-nil (waiters_field ws) in
-    subst (λ (o : Awaited Queue). IsBodyOf o bytes) g.1
+    subst (λ (o : Awaited Queue). IsBodyOf o (queue_code ∷ bytes)) g.1
     (record {
-      limits = record {
-        qbytes = t.1.qbytes;
-        count = t.1.messages.few;
-        bytes = t.1.messages.bytes;
-        each = t.1.messages.each;
-      };
+      limits = limits-of s.0 t.1;
       waiters = w.1;
       settled = settled-is s.0 ws g.0;
       sender = t.1.sender;
       receiver = t.1.receiver;
-      spelled = t.0.parts ∙ ap (λ (r : List ℕ). (queue_code ∷ state_field s.0) ++ r) behind;
+      spelled = ap (λ (r : List ℕ). queue_code ∷ r) (t.0.parts ∙ ap (λ (r : List ℕ). state_field s.0 ++ r) behind);
     })
+
+-- the queue that is read from bytes has them as its body
+pub body-takes : (bytes : List ℕ) (q : Awaited Queue) → IsBytes bytes → queue_at bytes ≡ Some q → IsBodyOf q bytes
+unfolding queue_at
+body-takes [] q fits e = absurd cc
+body-takes (c ∷ bytes) q fits e =
+    let g = guard_then (eqb c queue_code) (fields_at bytes) q e in
+    let code : c ≡ queue_code = eqb-true c queue_code g.0 in
+    subst (λ (n : ℕ). IsBodyOf q (n ∷ bytes)) (sym code)
+    (fields-take bytes q (IsBytes-rest c bytes fits) g.1)
 
 -- ---- and the body is read
 
-coded-again : (q : Awaited Queue) → IsState q.state → coded_at (body q) ≡ Some (q.state, waiters_field q.waiters)
-coded-again q h = state-inverse.again q.state (waiters_field q.waiters) h
-
--- the body of a queue is read as it
-pub body-again : (bytes : List ℕ) (q : Awaited Queue) → IsBodyOf q bytes → queue_at bytes ≡ Some q
-unfolding queue_at settled_at
-body-again bytes q h =
-    let state : IsState q.state = record {
+state-of : (q : Awaited Queue) (bytes : List ℕ) → IsBodyOf q bytes → IsState q.state
+state-of q bytes h =
+    record {
       qbytes = h.limits.qbytes;
       sender = h.sender;
       receiver = h.receiver;
-      messages =
-          record { few = h.limits.count; bytes = h.limits.bytes; each = h.limits.each };
-    } in
+      messages = record { few = h.limits.count; bytes = h.limits.bytes; each = h.limits.each };
+    }
+
+fields-again : (bytes : List ℕ) (q : Awaited Queue) → IsBodyOf q bytes
+    → fields_at (state_field q.state ++ waiters_field q.waiters) ≡ Some q
+unfolding fields_at settled_at
+fields-again bytes q h =
+    let state = state-inverse.again q.state (waiters_field q.waiters) (state-of q bytes h) in
     let read : waiters_at call_at (waiters_field q.waiters) ≡ Some (q.waiters, []) =
     ap (waiters_at call_at) (sym (append-nil (waiters_field q.waiters)))
     ∙ (waiters-inverse IsWaitingCall call_at call-inverse).again q.waiters [] h.waiters in
     let settled = is-settled q.state q.waiters h.settled in
-    rw (h.spelled, coded-again q state, read, settled) refl
+    rw (state, read, settled) refl
+
+-- the body of a queue is read as it
+pub body-again : (bytes : List ℕ) (q : Awaited Queue) → IsBodyOf q bytes → queue_at bytes ≡ Some q
+unfolding queue_at
+body-again bytes q h = ap queue_at h.spelled ∙ fields-again bytes q h
 
 -- bytes are the body of one queue
-pub one-queue : (bytes : List ℕ) (p q : Awaited Queue) → IsBodyOf p bytes → IsBodyOf q bytes → p ≡ q
-one-queue bytes p q first second = some_is p q (sym (body-again bytes p first) ∙ body-again bytes q second)
+pub one-queue : (bytes : List ℕ) (p q : Awaited Queue) → queue_at bytes ≡ Some p → IsBodyOf q bytes → p ≡ q
+one-queue bytes p q read h = some_is p q (sym read ∙ body-again bytes q h)
 
 none-some : (o : Option (Awaited Queue)) (q : Awaited Queue) → o ≡ None → o ≡ Some q → ⊥
 none-some None q none some = absurd cc
 none-some (Some p) q none some = absurd cc
 
--- what is told of bytes that are read, or not
-pub tells-packed : (bytes : List ℕ) (b : Bool) → IsBytes bytes → b ≡ is_some (queue_at bytes)
-    → TellsPacked (λ q. IsBodyOf q bytes) b
-tells-packed bytes b fits told = by-read (queue_at bytes) refl b told where
-  by-read : (o : Option (Awaited Queue)) → queue_at bytes ≡ o → (t : Bool) → t ≡ is_some o
-      → TellsPacked (λ q. IsBodyOf q bytes) t
-  by-read (Some q) read true e = record { value = q; is_body = body-takes bytes q fits read }
-  by-read (Some q) read false e = absurd cc
-  by-read None read true e = absurd cc
-  by-read None read false e = λ q h. none-some (queue_at bytes) q read (body-again bytes q h)
+-- what is refused as no body is none's
+pub no-body : (e : UnpackFault) (bytes : List ℕ) → Fails e (queue_at bytes) → e ≡ NotABody → (q : Awaited Queue)
+    → IsBodyOf q bytes → ⊥
+no-body Memory bytes told is q h = absurd cc
+no-body NotABody bytes told is q h = none-some (queue_at bytes) q told (body-again bytes q h)
+
+-- ---- who waits at a queue that has a body
+
+are-parked : (ws : List Waiting) → AllByRecursion (IsWaiter IsWaitingCall) ws → AllByRecursion IsParked ws
+are-parked [] each = tt
+are-parked (w ∷ ws) each =
+    (record { ticket = positive w.ticket each.0.positive; call = each.0.call.waits }, are-parked ws each.1)
+  where
+    positive : (n : ℕ) → is_nonzero n ≡ true → 1 ≤ n
+    positive n h = grind (arith, nat_tests)
+
+-- they are within the limits of those who wait
+pub parked-there : (bytes : List ℕ) (q : Awaited Queue) → IsBodyOf q bytes → AreParked q
+parked-there bytes q h =
+    record {
+      few = h.waiters.few;
+      different = h.waiters.different;
+      each = are-parked q.waiters h.waiters.each;
+      settled = h.settled;
+    }

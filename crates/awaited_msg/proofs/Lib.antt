@@ -9,4 +9,5 @@ pub mod BodyLaws
 pub mod Packing
 pub mod Spelling
 pub mod Bodies
-pub mod Measuring
+pub mod Parts
+pub mod Copying

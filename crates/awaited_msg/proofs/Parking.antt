@@ -71,7 +71,7 @@ with-first w ws vs o =
       different = λ h.
           let t = and_parts (not (has w.pid ws)) (are_different (processes_of ws)) h in
           and_from (not (has w.pid vs)) (are_different (processes_of vs))
-              (ap not (o.lacks w.pid (not-false (has w.pid ws) t.0))) (o.different t.1);
+          (ap not (o.lacks w.pid (not-false (has w.pid ws) t.0))) (o.different t.1);
     }
 
 pub some-of : (a b c : List Waiting) → AreOf a b → AreOf b c → AreOf a c

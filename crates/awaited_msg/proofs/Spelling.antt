@@ -62,11 +62,10 @@ tickets (w ∷ ws) each = (at-least-one w.ticket each.0.ticket, tickets ws each.
 calls-fit : (ws : List Waiting) → AllByRecursion IsParked ws → AllByRecursion (λ w. is_call w.call ≡ true) ws
     → AllByRecursion (λ w. HasCallRanges w.call → IsWaitingCall w.call) ws
 calls-fit [] each within = tt
-calls-fit (w ∷ ws) each within =
-    (
-      λ ranges. record { waits = each.0.call; ranges = ranges; within = within.0 },
-      calls-fit ws each.1 within.1,
-    )
+calls-fit (w ∷ ws) each within = (
+  λ ranges. record { waits = each.0.call; ranges = ranges; within = within.0 },
+  calls-fit ws each.1 within.1,
+)
 
 -- what was written is the body of the queue
 pub is-body : (q : Awaited Queue) (first all : List ℕ) → AreParked q → IsWithinLimits q.state

@@ -91,8 +91,7 @@ taken-is pid ticket q new w different same taken =
     let passes = passes-at test q.waiters taken.place w taken.first taken.there in
     let its : nat_eq pid w.pid ≡ true = (and_parts (nat_eq pid w.pid) (nat_eq ticket w.ticket) passes).0 in
     let left : new.waiters ≡ filter (others pid) q.waiters =
-    taken.rest ∙ others-left pid q.waiters taken.place w different taken.there its in
-    (
+    taken.rest ∙ others-left pid q.waiters taken.place w different taken.there its in (
       found-at test q.waiters taken.place w taken.first taken.there,
       ap (λ (s : Queue). awaited s new.waiters) same ∙ ap (awaited q.state) left,
     )

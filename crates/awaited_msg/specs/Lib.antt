@@ -5,4 +5,3 @@ pub mod Going
 pub mod Stored
 pub mod Body
 pub mod Reading
-pub mod Measured

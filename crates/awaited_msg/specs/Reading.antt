@@ -6,7 +6,7 @@ use Rattle.pico_base.specs.declared.call.Call.{Call}
 use Rattle.pico_base.specs.declared.call.Call.TheVariants as calls
 use Rattle.pico_base.specs.Options.{◌>>=◌}
 use Rattle.body_fields.specs.Fields.{number_upto, whole}
-use Rattle.frame_bytes.specs.Readers.{Reader, counted, five, four, passing, tabled, two}
+use Rattle.frame_bytes.specs.Readers.{Reader, counted, five, four, passing, tabled, three, two}
 use Rattle.frame_bytes.specs.Fields.{flag_at, signed_at, text_at, word_at}
 use Rattle.kernel_model.specs.Queue.{Message, Queue, bytes_of, max_messages, max_queue_bytes, max_text}
 use Rattle.waiting_model.specs.declared.callers.Waiting.{Waiting}
@@ -56,23 +56,32 @@ abbrev pub queue_of : ℕ → ℕ → ℕ → List Message → Queue
 queue_of qbytes sender receiver messages =
     record { messages = messages; qbytes = qbytes; last_sender = sender; last_receiver = receiver }
 
+-- the numbers before the messages
+unfoldable pub numbers_at : Reader (ℕ × ℕ × ℕ)
+numbers_at bytes =
+    three (number_upto w32 max_queue_bytes) word_at word_at (λ qbytes sender receiver. (qbytes, sender, receiver)) bytes
+
 -- the queue's own fields behind the code
 unfoldable pub state_at : Reader Queue
 state_at bytes = four (number_upto w32 max_queue_bytes) word_at word_at messages_at queue_of bytes
+
+-- a queue with those who wait, if none of their calls could go on
+abbrev pub settled_or_none : Awaited Queue → Option (Awaited Queue)
+settled_or_none q = if is_settled q then Some q else None
 
 -- those who wait at a queue, with nothing behind them and none whose call could go on
 unfoldable pub settled_at : Queue → List ℕ → Option (Awaited Queue)
 settled_at q bytes = do
   ws ← whole (waiters_at call_at bytes)
-  if is_settled (awaited q ws) then Some (awaited q ws) else None
+  settled_or_none (awaited q ws)
 
--- the code, and the queue's own fields
-abbrev pub coded_at : Reader Queue
-coded_at [] = None
-coded_at (code ∷ bytes) = if code == queue_code then state_at bytes else None
+-- the queue's own fields, and those who wait
+unfoldable pub fields_at : List ℕ → Option (Awaited Queue)
+fields_at bytes = do
+  state ← state_at bytes
+  settled_at state.0 state.1
 
 -- a queue that all of the bytes spell
 unfoldable pub queue_at : List ℕ → Option (Awaited Queue)
-queue_at bytes = do
-  state ← coded_at bytes
-  settled_at state.0 state.1
+queue_at [] = None
+queue_at (code ∷ bytes) = if code == queue_code then fields_at bytes else None

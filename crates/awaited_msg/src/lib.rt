@@ -4,6 +4,7 @@
 #![tactic(auto)]
 
 mod awaiting;
+mod calls;
 mod fault;
 mod links;
 mod message;
@@ -12,7 +13,6 @@ mod queue;
 mod reading;
 mod store;
 mod unpack;
-mod waits;
 
 pub use fault::SendFault;
 pub use message::Message;

@@ -1,6 +1,7 @@
 //! A queue written as bytes.
 ghost use Rattle.std.specs.Prelude.{◌≡◌, ◌≤◌, ◌<◌, ◌^◌, ◌∷◌, ◌++◌, [], IfOk, IfSome, OnOk};
 ghost use Rattle.std.specs.List.{flat_map};
+ghost use Rattle.frame_bytes.specs.Fields.{word};
 ghost use Rattle.awaited_msg.specs.Body.{IsBodyOf, message_field, messages_field, numbers_field, queue_code};
 ghost use Rattle.awaited_msg.specs.Limits.{AreParked, IsWithinLimits};
 ghost use Rattle.awaited_msg.specs.Linked.{messages_of};
@@ -21,6 +22,27 @@ fn short_of(number: usize) -> Option<u32>
         return None;
     }
     Some(number as u32)
+}
+
+/// Adds a number at the end.
+fn push_word(out: &mut Vec<u8>, number: u32) -> Result<(), Memory>
+    ensures bytes { OnOk result (out.new.items ≡ out.old.items ++ word number) }
+    ensures fits { OnOk result (number < 2 ^ 32) }
+{
+    out.extend_from_slice(&number.to_be_bytes())?;
+    Ok(())
+}
+
+/// Adds three numbers at the end.
+fn push_words(out: &mut Vec<u8>, first: u32, second: u32, third: u32) -> Result<(), Memory>
+    ensures bytes { OnOk result (out.new.items ≡ out.old.items ++ (word first ++ (word second ++ word third))) }
+    ensures second { OnOk result (second < 2 ^ 32) }
+    ensures third { OnOk result (third < 2 ^ 32) }
+{
+    push_word(out, first)?;
+    push_word(out, second)?;
+    push_word(out, third)?;
+    Ok(())
 }
 
 /// Adds a message at the end: its type, the length of its text, and the text.
@@ -67,9 +89,7 @@ impl Store {
         ensures receiver { OnOk result (self.now.queue.last_receiver < 2 ^ 32) }
     {
         out.push(CODE)?;
-        out.extend_from_slice(&self.qbytes.to_be_bytes())?;
-        out.extend_from_slice(&self.last_sender.0.to_be_bytes())?;
-        out.extend_from_slice(&self.last_receiver.0.to_be_bytes())?;
+        push_words(out, self.qbytes, self.last_sender.0, self.last_receiver.0)?;
         Ok(())
     }
 

@@ -1,16 +1,14 @@
-//! A packed queue as it is read, without memory: its numbers, and where its messages and those who wait lie.
-ghost use Rattle.std.specs.Prelude.{◌≡◌, ◌≤◌, ℕ, List, Some, None, IfSome, MatchOption, length};
-ghost use Rattle.std.specs.Option.{option_map};
+//! The fields of a packed queue, read without memory.
+ghost use Rattle.std.specs.Prelude.{◌≤◌, IfSome, length};
 ghost use Rattle.body_fields.specs.Fields.{Reads};
 ghost use Rattle.frame_bytes.specs.Fields.{flag_at, signed_at, text_at, word_at};
-ghost use Rattle.frame_bytes.specs.Readers.{five, four, many};
+ghost use Rattle.frame_bytes.specs.Readers.{five, four};
 ghost use Rattle.kernel_model.specs.Queue.{max_text};
 ghost use Rattle.pico_base.specs.declared.call.Call.TheVariants as calls;
-ghost use Rattle.awaited_msg.specs.Measured.{sized};
-ghost use Rattle.awaited_msg.specs.Reading.{class_at, message_at, message_of, short_at};
+ghost use Rattle.awaited_msg.specs.Reading.{class_at, message_at, message_of, numbers_at, short_at};
 
-use crate::store::{MAX_BYTES, MAX_MESSAGES, MAX_TEXT};
-use body_fields::{u8_at, u16_upto, u32_at, u32_upto};
+use crate::store::{MAX_BYTES, MAX_TEXT};
+use body_fields::{u32_at, u32_upto};
 
 /// The code of a queue among the bodies.
 pub(crate) const CODE: u8 = 4;
@@ -85,61 +83,15 @@ pub(crate) fn message_of(bytes: &[u8]) -> Option<(i32, &[u8], &[u8])>
     Some((class, text, rest))
 }
 
-/// How many bytes the texts of so many messages have, and the bytes behind the messages.
-fn measured(count: u16, bytes: &[u8]) -> Option<(usize, &[u8])>
-    requires { count ≤ 1024 }
-    ensures { Reads (λ x. (x.0, x.1.now)) result
-        (option_map sized (many message_at count bytes.now)) }
+/// The numbers before a queue's messages: `msg_qbytes`, the last sender and the last receiver; and the bytes behind them.
+#[tactic(auto, unfolding(crate::specs::Reading::numbers_at))]
+pub(crate) fn numbers_of(bytes: &[u8]) -> Option<(u32, u32, u32, &[u8])>
+    ensures { Reads (λ x. ((x.0, x.1, x.2), x.3.now)) result (numbers_at bytes.now) }
 {
-    let mut size = 0;
-    let mut rest = bytes;
-    for _ in 0..count {
-        let (_, text, after) = message_of(rest)?;
-        size += text.len();
-        rest = after;
-    }
-    Some((size, rest))
-}
-
-/// The numbers of a packed queue, with the bytes where its messages and those who wait ought to be.
-#[derive(Clone, Copy)]
-pub(crate) struct Fields<'a> {
-    pub(crate) qbytes: u32,
-    pub(crate) sender: u32,
-    pub(crate) receiver: u32,
-    pub(crate) count: u16,
-    pub(crate) size: usize,
-    pub(crate) messages: &'a [u8],
-    pub(crate) waiters: &'a [u8],
-}
-
-/// The numbers behind the code.
-fn fields_of(bytes: &[u8]) -> Option<Fields<'_>> {
     let (qbytes, rest) = u32_upto(MAX_BYTES, bytes)?;
     let (sender, rest) = u32_at(rest)?;
     let (receiver, rest) = u32_at(rest)?;
-    let (count, messages) = u16_upto(MAX_MESSAGES as u16, rest)?;
-    let (size, waiters) = measured(count, messages)?;
-    if size > MAX_BYTES as usize {
-        return None;
-    }
-    Some(Fields {
-        qbytes,
-        sender,
-        receiver,
-        count,
-        size,
-        messages,
-        waiters,
-    })
-}
-
-/// The numbers behind the code, which is read, too.
-pub(crate) fn queue_fields(bytes: &[u8]) -> Option<Fields<'_>> {
-    match bytes {
-        [CODE, fields @ ..] => fields_of(fields),
-        _ => None,
-    }
+    Some((qbytes, sender, receiver, rest))
 }
 
 /// A send behind its code, and the bytes behind it: the queue's number, the type, the text, and whether it never waits.

@@ -240,7 +240,7 @@ fn packed(rt: HostRuntime) -> Result<(), Fail> {
 #[test]
 fn unpacked(rt: HostRuntime) -> Result<(), Fail> {
     let alloc = rt.alloc();
-    assert!(rt; Queue::is_packed(BODY));
+    assert!(rt; Queue::is_packed(alloc, BODY)?);
     let mut queue = Queue::unpack(alloc, BODY)?;
     assert_eq!(rt; queue.waiting(), 2);
     assert_eq!(rt; queue.pack()?.as_slice(), BODY);
@@ -251,9 +251,9 @@ fn unpacked(rt: HostRuntime) -> Result<(), Fail> {
     Ok(())
 }
 
-/// Whether the bytes are refused as no body, with memory and without.
+/// Whether the bytes are refused as no body, and told to be none.
 fn is_refused(alloc: Global, bytes: &[u8]) -> bool {
-    !Queue::is_packed(bytes) && Queue::unpack(alloc, bytes).err() == Some(UnpackFault::NotABody)
+    Queue::is_packed(alloc, bytes) == Ok(false) && Queue::unpack(alloc, bytes).err() == Some(UnpackFault::NotABody)
 }
 
 /// A body with another byte at a place.

@@ -24,8 +24,7 @@ returns c =
           (taken-is c.args.pid c.args.ticket c.self.inside.awaiting c.take.new.self w.in-Some.waiter
           c.self.invariant.different c.take.ensures.state w.in-Some.ensures.waiter)
       | in-None w ↦
-          rw (w.result-is, ← c.self.view_is)
-          (
+          rw (w.result-is, ← c.self.view_is) (
             none-found (is_waiter c.args.pid c.args.ticket) c.self.inside.awaiting.waiters
                 w.in-None.ensures.waiter.0,
             same-again c.self.inside.awaiting c.take.new.self c.take.ensures.state w.in-None.ensures.waiter.1,
