@@ -1,5 +1,5 @@
 -- A queue is read by its parts: its numbers, its messages, those who wait, and whether none of them could go on.
-use Rattle.std.proofs.Common.{◌≡◌, ◌∙◌, ℕ, ◌≤◌, Bool, true, false, eqb, List, [], length, Option, Some, None, refl, sym, ap}
+use Rattle.std.proofs.Common.{◌≡◌, ◌∙◌, ℕ, ◌≤◌, Bool, true, false, eqb, List, [], length, Option, Some, None, refl}
 use Rattle.std.specs.Int.{w32}
 use Rattle.pico_base.specs.Options.{◌>>=◌}
 use Rattle.pico_base.specs.declared.fault.UnpackFault.{UnpackFault}
@@ -8,7 +8,7 @@ use Rattle.kernel_model.specs.Queue.{Message, Queue, max_queue_bytes}
 use Rattle.waiting_model.specs.declared.callers.Waiting.{Waiting}
 use Rattle.waiting_model.specs.Waiters.{Awaited, awaited}
 use Rattle.body_fields.specs.Fields.{number_upto, whole}
-use Rattle.body_fields.proofs.Fields.{IsBytes, whole_is}
+use Rattle.body_fields.proofs.Fields.{IsBytes}
 use Rattle.frame_bytes.specs.Fields.{word_at}
 use Rattle.frame_bytes.specs.Readers.{Fails, Reader, four, one, three}
 use Rattle.waiter_fields.specs.Waiters.{max_waiters, waiters_at}
@@ -55,7 +55,7 @@ by-numbers bytes = by-first word_at word_at messages_at queue_of (number_upto w3
 pub state-read : (bytes rest behind : List ℕ) (n : ℕ × ℕ × ℕ) (ms : List Message)
     → numbers_at bytes ≡ Some (n, rest) → messages_at rest ≡ Some (ms, behind)
     → state_at bytes ≡ Some (queue_of n.0 n.1 n.2 ms, behind)
-state-read bytes rest behind n ms first then = by-numbers bytes ∙ rw (first, then) refl
+state-read bytes rest behind n ms first second = by-numbers bytes ∙ rw (first, second) refl
 
 -- a queue that is read is within the limits
 pub within-read : (bytes behind : List ℕ) (q : Queue) → IsBytes bytes → state_at bytes ≡ Some (q, behind)
@@ -97,18 +97,18 @@ no-numbers bytes none = rw (by-numbers bytes, none) refl
 pub no-messages : (e : UnpackFault) (bytes rest : List ℕ) (n : ℕ × ℕ × ℕ) → numbers_at bytes ≡ Some (n, rest)
     → Fails e (messages_at rest) → Fails e (fields_at bytes)
 unfolding fields_at
-no-messages Memory bytes rest n first then = tt
-no-messages NotABody bytes rest n first then = rw (by-numbers bytes, first, then) refl
+no-messages Memory bytes rest n first second = tt
+no-messages NotABody bytes rest n first second = rw (by-numbers bytes, first, second) refl
 
 -- nobody who waits is read behind the messages, or more than they
 pub no-waiters : (e : UnpackFault) (bytes behind : List ℕ) (q : Queue) → state_at bytes ≡ Some (q, behind)
     → Fails e (whole (waiters_at call_at behind)) → Fails e (fields_at bytes)
 unfolding fields_at settled_at
-no-waiters Memory bytes behind q first then = tt
-no-waiters NotABody bytes behind q first then = rw (first, then) refl
+no-waiters Memory bytes behind q first second = tt
+no-waiters NotABody bytes behind q first second = rw (first, second) refl
 
 -- the queue and those who wait
 pub all-read : (bytes behind : List ℕ) (q : Queue) (ws : List Waiting) → state_at bytes ≡ Some (q, behind)
     → whole (waiters_at call_at behind) ≡ Some ws → fields_at bytes ≡ settled_or_none (awaited q ws)
 unfolding fields_at settled_at
-all-read bytes behind q ws first then = rw (first, then) refl
+all-read bytes behind q ws first second = rw (first, second) refl
