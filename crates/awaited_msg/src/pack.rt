@@ -33,15 +33,17 @@ fn push_word(out: &mut Vec<u8>, number: u32) -> Result<(), Memory>
     Ok(())
 }
 
-/// Adds three numbers at the end.
-fn push_words(out: &mut Vec<u8>, first: u32, second: u32, third: u32) -> Result<(), Memory>
-    ensures bytes { OnOk result (out.new.items ≡ out.old.items ++ (word first ++ (word second ++ word third))) }
-    ensures second { OnOk result (second < 2 ^ 32) }
-    ensures third { OnOk result (third < 2 ^ 32) }
+/// Adds the code and a queue's numbers at the end.
+fn push_front(out: &mut Vec<u8>, qbytes: u32, sender: u32, receiver: u32) -> Result<(), Memory>
+    ensures bytes { OnOk result
+        (out.new.items ≡ out.old.items ++ queue_code ∷ (word qbytes ++ (word sender ++ word receiver))) }
+    ensures sender { OnOk result (sender < 2 ^ 32) }
+    ensures receiver { OnOk result (receiver < 2 ^ 32) }
 {
-    push_word(out, first)?;
-    push_word(out, second)?;
-    push_word(out, third)?;
+    out.push(CODE)?;
+    push_word(out, qbytes)?;
+    push_word(out, sender)?;
+    push_word(out, receiver)?;
     Ok(())
 }
 
@@ -88,9 +90,7 @@ impl Store {
         ensures sender { OnOk result (self.now.queue.last_sender < 2 ^ 32) }
         ensures receiver { OnOk result (self.now.queue.last_receiver < 2 ^ 32) }
     {
-        out.push(CODE)?;
-        push_words(out, self.qbytes, self.last_sender.0, self.last_receiver.0)?;
-        Ok(())
+        push_front(out, self.qbytes, self.last_sender.0, self.last_receiver.0)
     }
 
     /// Adds the messages at the end, behind their count.

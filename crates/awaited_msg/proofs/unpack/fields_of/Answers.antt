@@ -30,8 +30,7 @@ pub invariant_of-store : goal.invariant_of-store
 invariant_of-store c =
     let ms : List Message = messages_of c.read_messages.new.into.nodes in
     let state = state-read c.args.bytes.now c.in-Some.rest.now c.in_ok-size.rest.now
-    (c.in-Some.qbytes, c.in-Some.sender, c.in-Some.receiver) ms c.in-Some.ensures c.in_ok-size.ensures.read in
-    (
+    (c.in-Some.qbytes, c.in-Some.sender, c.in-Some.receiver) ms c.in-Some.ensures c.in_ok-size.ensures.read in (
       c.in_ok-size.ensures.size,
       within-read c.args.bytes.now c.in_ok-size.rest.now
           (queue_of c.in-Some.qbytes c.in-Some.sender c.in-Some.receiver ms)
