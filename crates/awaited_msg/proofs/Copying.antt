@@ -9,6 +9,7 @@ use Rattle.frame_bytes.proofs.Loop.{goes_on, with_front}
 use Rattle.awaited_msg.specs.Linked.{message_of, messages_of}
 use Rattle.awaited_msg.specs.Reading.{message_at}
 
+-- a message in its slot
 abbrev pub Head : Type 0
 Head = Node (List ℕ)
 

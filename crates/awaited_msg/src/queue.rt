@@ -16,8 +16,8 @@ use waiting_model::{Applied, Waiting, Wakes};
 
 /// A message queue, which contracts see as its messages, the oldest first, with its `msg_qbytes`, last sender and last
 /// receiver, and those who wait at it, in the order in which they parked. It has at most 1,024 messages and their
-/// texts at most 16,384 bytes; each type is at least 1 and each text at most 4,096 bytes. At most 32 wait, each in a send or a
-/// receive, under a ticket of at least 1, no two of one process, and none whose call could go on.
+/// texts at most 16,384 bytes; each type is at least 1 and each text at most 4,096 bytes. At most 32 wait, each in a
+/// send or a receive, under a ticket of at least 1, no two of one process, and none whose call could go on.
 #[derive(Drop)]
 pub struct Queue {
     pub(crate) awaiting: Awaiting,

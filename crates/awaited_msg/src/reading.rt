@@ -83,7 +83,8 @@ pub(crate) fn message_of(bytes: &[u8]) -> Option<(i32, &[u8], &[u8])>
     Some((class, text, rest))
 }
 
-/// The numbers before a queue's messages: `msg_qbytes`, the last sender and the last receiver; and the bytes behind them.
+/// The numbers before a queue's messages: `msg_qbytes`, the last sender and the last receiver; and the bytes behind
+/// them.
 #[tactic(auto, unfolding(crate::specs::Reading::numbers_at))]
 pub(crate) fn numbers_of(bytes: &[u8]) -> Option<(u32, u32, u32, &[u8])>
     ensures { Reads (λ x. ((x.0, x.1, x.2), x.3.now)) result (numbers_at bytes.now) }

@@ -1,6 +1,6 @@
 -- What is read of those who wait is what was written, and what was written is read again, where that holds of the calls
 -- that may wait there.
-use Rattle.std.proofs.Common.{◌≡◌, ℕ, ◌≤◌, Bool, true, List, [], ◌∷◌, ◌++◌, length, refl}
+use Rattle.std.proofs.Common.{◌≡◌, ℕ, ◌≤◌, Bool, true, List, [], ◌∷◌, ◌++◌, refl}
 use Rattle.pico_base.specs.declared.call.Call.{Call}
 use Rattle.waiting_model.specs.declared.callers.Waiting.{Waiting}
 use Rattle.body_fields.specs.Fields.{byte_upto}
@@ -100,8 +100,7 @@ pub are-waiters : (IsCall : Call → Type 0) (ws : List Waiting) → AllByRecurs
     → AllByRecursion (IsWaiter IsCall) ws
 are-waiters IsCall [] ranges tickets calls = tt
 are-waiters IsCall (w ∷ ws) ranges tickets calls =
-    let r = ranges.0.1 in
-    (
+    let r = ranges.0.1 in (
       record {
         caller = ranges.0.0;
         ticket = r.ticket;

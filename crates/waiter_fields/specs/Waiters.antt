@@ -1,9 +1,8 @@
 -- Callers that wait at a queue or a set, as bytes in its body (profile): a count in one byte, and of each what a frame
 -- brings of a call that was asked for: the node of the caller, the ticket, the process number, and the call.
-use Rattle.std.specs.Prelude.{ℕ, Bool, true, not, ◌&&◌, nat_eq, List, [], ◌∷◌, length, map, Some, None, if◌then◌else◌}
+use Rattle.std.specs.Prelude.{ℕ, Bool, true, not, ◌&&◌, nat_eq, List, [], ◌∷◌, length, map}
 use Rattle.std.specs.List.{flat_map, list_any}
 use Rattle.pico_base.specs.declared.call.Call.{Call}
-use Rattle.pico_base.specs.Options.{◌>>=◌}
 use Rattle.rpc_frame.specs.declared.asked.Asked.{Asked}
 use Rattle.body_fields.specs.Fields.{byte_upto}
 use Rattle.frame_bytes.specs.Readers.{Reader, counted, passing, three, two}

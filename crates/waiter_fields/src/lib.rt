@@ -5,7 +5,8 @@
 //! `specs/Waiters.antt` says how they are spelled and read. `proofs/WaiterLaws.antt` has the law: what was read is
 //! what was written, and what was written is read again, where that holds of the calls that may wait.
 //!
-//! `specs/Settling.antt` says whom a loop wakes that settles, and `proofs/SettleLemmas.antt` that it is the definition's.
+//! `specs/Settling.antt` says whom a loop wakes that settles, and `proofs/SettleLemmas.antt` that it is the
+//! definition's.
 #![tactic(auto)]
 
 mod calls;

@@ -85,8 +85,8 @@ fn read_many<C: WaitingCalls>(alloc: Global, count: u8, bytes: &[u8]) -> Read<'_
 }
 
 /// Those who wait, in their order, and the bytes behind them. `NotABody` comes exactly where the bytes have no such
-/// waiters at their front: more than 32, a caller that is no node, a ticket 0, a call that doesn't wait there, or two of
-/// one process.
+/// waiters at their front: more than 32, a caller that is no node, a ticket 0, a call that doesn't wait there, or two
+/// of one process.
 #[tactic(auto, unfolding(crate::specs::Waiters::waiters_at))]
 pub fn read_waiters<C: WaitingCalls>(alloc: Global, bytes: &[u8]) -> Read<'_, Vec<Waiting>>
     ensures { Gives (λ x. (x.0.items, x.1.now)) result (waiters_at C.call_at bytes.now) }

@@ -35,7 +35,9 @@ pub fn waits_among(waiters: &[Waiting], pid: Pid) -> bool
 fn place_of(waiters: &[Waiting], pid: Pid, ticket: u32) -> Option<usize>
     ensures { result ≡ position (is_waiter pid ticket) waiters.now }
 {
-    waiters.iter().position(|waiter| is_waiter(waiter, pid, ticket))
+    waiters
+        .iter()
+        .position(|waiter| is_waiter(waiter, pid, ticket))
 }
 
 /// Takes out the waiter with this process and this ticket; the others keep their order. None exactly where there is

@@ -15,7 +15,13 @@ fn by(pid: u32, call: Call) -> Waiting {
     }
 }
 
-fn sends(alloc: Global, pid: u32, class: i32, text: &[u8], nowait: bool) -> Result<Waiting, Memory> {
+fn sends(
+    alloc: Global,
+    pid: u32,
+    class: i32,
+    text: &[u8],
+    nowait: bool,
+) -> Result<Waiting, Memory> {
     let text = Bytes::from_slice(alloc, text)?;
     let id = Id(1);
     Ok(by(
@@ -81,13 +87,7 @@ fn wakes(queue: &mut Queue, who: Waiting, reply: &Reply) -> Option<Wakes> {
         Applied {
             own: Some(own),
             wakes,
-        } => {
-            if own == *reply {
-                Some(wakes)
-            } else {
-                None
-            }
-        }
+        } => { if own == *reply { Some(wakes) } else { None } }
         _ => None,
     }
 }
@@ -160,7 +160,12 @@ fn a_round_begins_at_the_first_again(rt: HostRuntime) -> Result<(), Fail> {
     assert!(rt; replies(&mut queue, sends(alloc, 1, 1, b"abcd", true)?, &DONE));
     assert!(rt; parks(&mut queue, receives(3, 2, false)));
     assert!(rt; parks(&mut queue, sends(alloc, 2, 2, b"ef", false)?));
-    let woken = wakes(&mut queue, receives(1, 0, true), &message(alloc, 1, b"abcd")?).ok_or("a reply")?;
+    let woken = wakes(
+        &mut queue,
+        receives(1, 0, true),
+        &message(alloc, 1, b"abcd")?,
+    )
+    .ok_or("a reply")?;
     assert_eq!(rt; woken.len(), 2);
     assert!(rt; is_woken(&woken, 0, 2, &DONE));
     assert!(rt; is_woken(&woken, 1, 3, &message(alloc, 2, b"ef")?));
@@ -171,10 +176,28 @@ fn a_round_begins_at_the_first_again(rt: HostRuntime) -> Result<(), Fail> {
 fn a_call_that_may_not_wait_never_parks(rt: HostRuntime) -> Result<(), Fail> {
     let alloc = rt.alloc();
     let mut queue = Queue::new(alloc)?;
-    assert!(rt; replies(&mut queue, receives(2, -7, true), &Reply::Fail(Errno::Enomsg)));
+    assert!(rt;
+        replies(
+            &mut queue,
+            receives(2, -7, true),
+            &Reply::Fail(Errno::Enomsg)
+        )
+    );
     assert!(rt; replies(&mut queue, sets(1, 1), &DONE));
-    assert!(rt; replies(&mut queue, sends(alloc, 1, 1, b"ab", true)?, &Reply::Fail(Errno::Eagain)));
-    assert!(rt; replies(&mut queue, sends(alloc, 1, 0, b"ab", false)?, &Reply::Fail(Errno::Einval)));
+    assert!(rt;
+        replies(
+            &mut queue,
+            sends(alloc, 1, 1, b"ab", true)?,
+            &Reply::Fail(Errno::Eagain)
+        )
+    );
+    assert!(rt;
+        replies(
+            &mut queue,
+            sends(alloc, 1, 0, b"ab", false)?,
+            &Reply::Fail(Errno::Einval)
+        )
+    );
     assert!(rt; parks(&mut queue, sends(alloc, 1, 1, b"ab", false)?));
     Ok(())
 }
@@ -185,7 +208,9 @@ fn a_receive_of_too_few_bytes_has_its_refusal(rt: HostRuntime) -> Result<(), Fai
     let mut queue = Queue::new(alloc)?;
     assert!(rt; parks(&mut queue, receives(2, 0, false)));
     assert!(rt; parks(&mut queue, receives(3, 0, false)));
-    let woken = wakes(&mut queue, sends(alloc, 1, 1, b"ten bytes.", true)?, &DONE).ok_or("a reply")?;
+    let woken = wakes(&mut queue, sends(alloc, 1, 1, b"ten bytes.", true)?, &DONE).ok_or(
+        "a reply",
+    )?;
     assert_eq!(rt; woken.len(), 2);
     assert!(rt; is_woken(&woken, 1, 3, &Reply::Fail(Errno::E2big)));
     Ok(())
@@ -219,9 +244,10 @@ fn a_wait_is_broken_off_by_its_ticket(rt: HostRuntime) -> Result<(), Fail> {
 }
 
 /// Code 4, `msg_qbytes` 4, last sender 1, last receiver 0, one message of type 1 and the text abcd; and two who wait:
-/// process 3 in a receive of type 2, and process 2 in a send of type 2 and the text ef, each on node 2 under its process
-/// number as a ticket.
-const BODY: &[u8] = b"\x04\x00\x00\x00\x04\x00\x00\x00\x01\x00\x00\x00\x00\x00\x01\x00\x00\x00\x01\x00\x00\x00\x04abcd\
+/// process 3 in a receive of type 2, and process 2 in a send of type 2 and the text ef, each on node 2 under its
+/// process number as a ticket.
+const BODY: &[u8] =
+    b"\x04\x00\x00\x00\x04\x00\x00\x00\x01\x00\x00\x00\x00\x00\x01\x00\x00\x00\x01\x00\x00\x00\x04abcd\
 \x02\x02\x00\x00\x00\x03\x00\x00\x00\x03\x04\x00\x00\x00\x01\x00\x00\x00\x02\x00\x00\x00\x08\x00\x00\
 \x02\x00\x00\x00\x02\x00\x00\x00\x02\x03\x00\x00\x00\x01\x00\x00\x00\x02\x00\x00\x00\x02ef\x00";
 
@@ -244,7 +270,12 @@ fn unpacked(rt: HostRuntime) -> Result<(), Fail> {
     let mut queue = Queue::unpack(alloc, BODY)?;
     assert_eq!(rt; queue.waiting(), 2);
     assert_eq!(rt; queue.pack()?.as_slice(), BODY);
-    let woken = wakes(&mut queue, receives(1, 0, true), &message(alloc, 1, b"abcd")?).ok_or("a reply")?;
+    let woken = wakes(
+        &mut queue,
+        receives(1, 0, true),
+        &message(alloc, 1, b"abcd")?,
+    )
+    .ok_or("a reply")?;
     assert_eq!(rt; woken.len(), 2);
     assert!(rt; is_woken(&woken, 0, 2, &DONE));
     assert!(rt; is_woken(&woken, 1, 3, &message(alloc, 2, b"ef")?));
@@ -253,7 +284,8 @@ fn unpacked(rt: HostRuntime) -> Result<(), Fail> {
 
 /// Whether the bytes are refused as no body, and told to be none.
 fn is_refused(alloc: Global, bytes: &[u8]) -> bool {
-    Queue::is_packed(alloc, bytes) == Ok(false) && Queue::unpack(alloc, bytes).err() == Some(UnpackFault::NotABody)
+    Queue::is_packed(alloc, bytes) == Ok(false)
+        && Queue::unpack(alloc, bytes).err() == Some(UnpackFault::NotABody)
 }
 
 /// A body with another byte at a place.

@@ -21,7 +21,8 @@ loop-init c =
 pub returns-in_default-clause-read : goal.returns-in_default-clause-read
 returns-in_default-clause-read c =
     ends Message message_at NotABody (messages_of c.loop.into.nodes) c.args.count c.loop.counter c.loop.rest.now
-    (many message_at c.args.count c.args.bytes.now) c.loop-test.true c.in_default.ensures.read c.loop.invariant.copied.read
+    (many message_at c.args.count c.args.bytes.now) c.loop-test.true c.in_default.ensures.read
+    c.loop.invariant.copied.read
 
 pub loop-preserved : goal.loop-preserved
 loop-preserved c =
