@@ -1,14 +1,13 @@
 -- The bytes that are read as a queue are its body, and its body is read as it.
-use Rattle.std.proofs.Common.{◌≡◌, ◌∙◌, ℕ, ◌≤◌, Bool, true, false, not, ◌&&◌, eqb, List, [], ◌∷◌, ◌++◌, length, Option, Some, None, is_some, refl, sym, ap, subst, append-nil, arith}
+use Rattle.std.proofs.Common.{◌≡◌, ◌∙◌, ℕ, ◌≤◌, true, not, eqb, List, [], ◌∷◌, ◌++◌, Option, Some, None, is_some, refl, sym, ap, subst, append-nil, arith}
 use Rattle.std.specs.List.{list_all, AllByRecursion}
 use Rattle.std.proofs.lemmas.Bool.{and_from, and_parts, eqb-true}
 use Rattle.std.proofs.lemmas.Bool.Decides.{nat_tests}
-use Rattle.pico_base.specs.Options.{◌>>=◌}
 use Rattle.pico_base.specs.declared.fault.UnpackFault.{UnpackFault}
 use Rattle.pico_base.specs.declared.fault.UnpackFault.TheVariants.{Memory, NotABody}
 use Rattle.kernel_model.specs.Queue.{Queue}
 use Rattle.waiting_model.specs.declared.callers.Waiting.{Waiting}
-use Rattle.waiting_model.specs.Waiters.{Attempt, Awaited, IsSettled, awaited}
+use Rattle.waiting_model.specs.Waiters.{Attempt, Awaited, awaited}
 use Rattle.waiting_model.specs.Queue.{try_queue}
 use Rattle.body_fields.specs.Fields.{whole}
 use Rattle.body_fields.proofs.Fields.{IsBytes, IsBytes-rest, bind_some, guard_ended, guard_then, some_is, whole_is}
@@ -17,7 +16,7 @@ use Rattle.frame_bytes.specs.Readers.{Fails}
 use Rattle.waiter_fields.specs.Ranges.{IsWaiter}
 use Rattle.waiter_fields.specs.Waiters.{waiters_at, waiters_field}
 use Rattle.waiter_fields.proofs.WaiterLaws.{waiters-inverse}
-use Rattle.awaited_msg.specs.Body.{IsBodyOf, IsWaitingCall, body, queue_code}
+use Rattle.awaited_msg.specs.Body.{IsBodyOf, IsWaitingCall, queue_code}
 use Rattle.awaited_msg.specs.Limits.{AreParked, IsParked, IsWithinLimits}
 use Rattle.awaited_msg.specs.Reading.{call_at, fields_at, is_settled, queue_at, settled_at, settled_or_none, state_at, waits}
 use Rattle.awaited_msg.proofs.BodyLaws.{IsState, call-inverse, state-inverse, state_field}

@@ -1,8 +1,8 @@
 -- A queue that is read from a body is the one that was written, and what was written is read again.
-use Rattle.std.proofs.Common.{◌≡◌, ℕ, ◌^◌, ◌<◌, ◌≤◌, Bool, true, ℤ, pos, ◌≤ℤ◌, List, [], ◌∷◌, ◌++◌, length, Option, Some, None, refl, sym, ap, ◌∙◌, append_assoc, append-nil, arith}
+use Rattle.std.proofs.Common.{◌≡◌, ℕ, ◌^◌, ◌≤◌, Bool, true, ℤ, pos, ◌≤ℤ◌, List, [], ◌∷◌, ◌++◌, length, Some, refl, ap, ◌∙◌, append_assoc, arith}
 use Rattle.std.specs.Prelude.{FitsSigned, int_le, nat_le}
 use Rattle.std.specs.Int.{w16, w32}
-use Rattle.std.specs.List.{list_all, AllByRecursion}
+use Rattle.std.specs.List.{AllByRecursion}
 use Rattle.std.proofs.lemmas.Bool.{false≢true}
 use Rattle.std.proofs.lemmas.Bool.Decides.{nat_tests}
 use Rattle.std.proofs.lemmas.Int.{ints}
@@ -17,7 +17,7 @@ use Rattle.frame_bytes.specs.Calls.{call_bytes}
 use Rattle.frame_bytes.specs.Limits.{is_text}
 use Rattle.frame_bytes.proofs.Inverse.{Counted, Field, Inverse, Passes, Reads, counted-inverse, five-again, five-takes, four-again, four-takes, passing-inverse, renamed, tabled-takes, two-again, two-takes}
 use Rattle.frame_bytes.proofs.FieldLaws.{flag-field, signed-field, signed-inverse, text-field, text-inverse, text-is, whole-inverse, word-field}
-use Rattle.awaited_msg.specs.Limits.{IsSendable, may_wait}
+use Rattle.awaited_msg.specs.Limits.{IsSendable}
 use Rattle.awaited_msg.specs.Body.{IsWaitingCall, message_field, messages_field}
 use Rattle.awaited_msg.specs.Reading.{call_at, call_rows, class_at, message_at, message_of, messages_at, queue_of, short_at, state_at}
 

@@ -1,7 +1,7 @@
 -- Those who wait keep their limits: a call adds its own caller at most, and otherwise leaves some of them, in order.
-use Rattle.std.proofs.Common.{◌≡◌, ◌∙◌, ℕ, zero, suc, ◌+◌, ◌≤◌, ◌<◌, Bool, true, false, cond, not, ◌&&◌, ◌||◌, List, [], ◌∷◌, ◌++◌, length, Option, Some, None, refl, sym, ap, subst, arith}
-use Rattle.std.specs.Prelude.{find, nat_eq, position, remove, slice_get}
-use Rattle.std.specs.List.{filter, list_any, AllByRecursion}
+use Rattle.std.proofs.Common.{◌≡◌, ◌∙◌, ℕ, zero, suc, ◌≤◌, ◌<◌, Bool, true, false, not, ◌||◌, List, [], ◌∷◌, ◌++◌, length, Option, Some, None, refl, sym, ap, subst, arith}
+use Rattle.std.specs.Prelude.{nat_eq, remove}
+use Rattle.std.specs.List.{list_any, AllByRecursion}
 use Rattle.std.proofs.lemmas.Bool.{and_from, and_parts, false≢true}
 use Rattle.std.proofs.lemmas.Bool.Decides.{nat_tests}
 use Rattle.std.proofs.lemmas.List.{length-append}
@@ -10,7 +10,7 @@ use Rattle.pico_base.specs.declared.call.Call.TheVariants as calls
 use Rattle.waiting_model.specs.declared.callers.Applied.{Applied}
 use Rattle.waiting_model.specs.declared.callers.Waiting.{Waiting}
 use Rattle.kernel_model.specs.Queue.{Queue}
-use Rattle.waiting_model.specs.Waiters.{Attempt, Awaited, IsSettled, Ready, Try, awaited, carry_out_by, first_ready, ready_or, settle_by, settle_on, waits_here, without_waiter}
+use Rattle.waiting_model.specs.Waiters.{Attempt, Awaited, Ready, Try, awaited, carry_out_by, first_ready, ready_or, settle_by, settle_on, waits_here}
 use Rattle.waiting_model.specs.Queue.{carry_out_on_queue, try_queue}
 use Rattle.waiter_fields.specs.Settling.{IsCarried}
 use Rattle.waiter_fields.specs.Waiters.{are_different, max_waiters, processes_of}

@@ -1,16 +1,16 @@
 -- A queue is read by its parts: its numbers, its messages, those who wait, and whether none of them could go on.
-use Rattle.std.proofs.Common.{◌≡◌, ◌∙◌, ℕ, ◌≤◌, Bool, true, false, eqb, List, [], length, Option, Some, None, refl}
+use Rattle.std.proofs.Common.{◌≡◌, ◌∙◌, ℕ, ◌≤◌, true, false, eqb, List, length, Option, Some, None, refl}
 use Rattle.std.specs.Int.{w32}
 use Rattle.pico_base.specs.Options.{◌>>=◌}
 use Rattle.pico_base.specs.declared.fault.UnpackFault.{UnpackFault}
 use Rattle.pico_base.specs.declared.fault.UnpackFault.TheVariants.{Memory, NotABody}
 use Rattle.kernel_model.specs.Queue.{Message, Queue, max_queue_bytes}
 use Rattle.waiting_model.specs.declared.callers.Waiting.{Waiting}
-use Rattle.waiting_model.specs.Waiters.{Awaited, awaited}
+use Rattle.waiting_model.specs.Waiters.{awaited}
 use Rattle.body_fields.specs.Fields.{number_upto, whole}
 use Rattle.body_fields.proofs.Fields.{IsBytes}
 use Rattle.frame_bytes.specs.Fields.{word_at}
-use Rattle.frame_bytes.specs.Readers.{Fails, Reader, four, one, three}
+use Rattle.frame_bytes.specs.Readers.{Fails, Reader, one}
 use Rattle.waiter_fields.specs.Waiters.{max_waiters, waiters_at}
 use Rattle.waiter_fields.proofs.WaiterLaws.{waiters-inverse}
 use Rattle.awaited_msg.specs.Body.{IsWaitingCall}

@@ -1,5 +1,5 @@
 -- A queue and those who wait at it have a spelling.
-use Rattle.std.proofs.Common.{◌≡◌, ◌∙◌, ℕ, ◌<◌, ◌≤◌, ◌^◌, Bool, true, false, cond, not, ◌&&◌, ltb, nat_le, ℤ, pos, List, [], ◌∷◌, ◌++◌, length, Option, Some, None, Result, Ok, Err, refl, sym, ap, append_assoc, arith}
+use Rattle.std.proofs.Common.{◌≡◌, ◌∙◌, ℕ, ◌<◌, ◌≤◌, ◌^◌, Bool, true, false, cond, nat_le, ℤ, pos, List, [], ◌∷◌, ◌++◌, length, None, Ok, Err, refl, ap, append_assoc, arith}
 use Rattle.std.specs.Prelude.{int_le, nat_lt}
 use Rattle.std.specs.List.{AllByRecursion}
 use Rattle.std.proofs.lemmas.Bool.{and_parts, false≢true}
@@ -14,10 +14,10 @@ use Rattle.waiting_model.specs.Queue.{try_queue, try_send}
 use Rattle.frame_bytes.specs.Limits.{is_call, is_nonzero}
 use Rattle.frame_bytes.specs.Ranges.{HasCallRanges}
 use Rattle.frame_bytes.proofs.FieldLaws.{text-is}
-use Rattle.waiter_fields.specs.Ranges.{AreWaiters, HasWaiterRanges}
+use Rattle.waiter_fields.specs.Ranges.{HasWaiterRanges}
 use Rattle.waiter_fields.specs.Waiters.{waiters_field}
 use Rattle.waiter_fields.proofs.WaiterLaws.{are-waiters}
-use Rattle.awaited_msg.specs.Body.{IsBodyOf, IsWaitingCall, body, messages_field, numbers_field, queue_code}
+use Rattle.awaited_msg.specs.Body.{IsBodyOf, IsWaitingCall, messages_field, numbers_field, queue_code}
 use Rattle.awaited_msg.specs.Limits.{AreParked, IsParked, IsWithinLimits, may_wait}
 
 short-text : (n : ℕ) → nat_le n max_text ≡ true → n < 2 ^ 32

@@ -1,8 +1,7 @@
 -- A queue as bytes (profile): a code, msg_qbytes, the last sender, the last receiver, the count of messages, each
 -- message as its type and its text, and those who wait. Numbers are big-endian, signed ones in two's complement.
-use Rattle.std.specs.Prelude.{◌≡◌, ℕ, ◌<◌, ◌^◌, Bool, true, List, ◌∷◌, ◌++◌, length, Some, None, Ok, nat_le, int_le, pos}
-use Rattle.std.specs.List.{flat_map, AllByRecursion}
-use Rattle.std.specs.Int.{w16, w32, to_be_bytes, cast_unsigned}
+use Rattle.std.specs.Prelude.{◌≡◌, ℕ, ◌<◌, ◌^◌, true, List, ◌∷◌, ◌++◌, length}
+use Rattle.std.specs.List.{flat_map}
 use Rattle.kernel_model.specs.Queue.{Message, Queue}
 use Rattle.frame_bytes.specs.Fields.{signed, text, word, half}
 use Rattle.frame_bytes.specs.Ranges.{HasCallRanges}

@@ -1,5 +1,5 @@
 -- Reading a body from left to right: a field is its value and the bytes after it, or there is none.
-use Rattle.std.specs.Prelude.{ℕ, ℤ, pos, Bool, not, ◌&&◌, List, [], ◌∷◌, length, Option, Some, None, is_some, nat_lt, nat_le, int_le, ◌==◌, if◌then◌else◌}
+use Rattle.std.specs.Prelude.{ℕ, ℤ, pos, Bool, not, List, [], ◌∷◌, length, Option, Some, None, is_some, nat_le, int_le, ◌==◌, if◌then◌else◌}
 use Rattle.std.specs.List.{list_all}
 use Rattle.std.specs.Int.{w16, w32}
 use Rattle.pico_base.specs.declared.call.Call.{Call}

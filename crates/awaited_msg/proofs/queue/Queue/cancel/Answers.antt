@@ -1,5 +1,3 @@
-use Rattle.std.proofs.Common.{ap, ◌∙◌}
-use Rattle.waiting_model.specs.Waiters.{Awaited}
 use Rattle.waiter_fields.specs.Settling.{is_waiter}
 use Rattle.awaited_msg.proofs.Taking.{none-found, parked-same, parked-taken, same-again, taken-is}
 use Rattle.awaited_msg.proofs.queue.Queue.cancel.Goals as goal
