@@ -1,0 +1,13 @@
+pub mod Settling
+pub mod Selected
+pub mod Slots
+pub mod Receiving
+pub mod ReceiveLemmas
+pub mod Parking
+pub mod Taking
+pub mod BodyLaws
+pub mod Packing
+pub mod Spelling
+pub mod Bodies
+pub mod Parts
+pub mod Copying

@@ -1,0 +1,2 @@
+//! Queues at which callers wait.
+mod queues;

@@ -1,0 +1,3 @@
+pub mod WaiterLaws
+pub mod Passing
+pub mod SettleLemmas
