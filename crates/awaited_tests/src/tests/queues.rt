@@ -1,4 +1,7 @@
 //! Who parks at a queue, who is woken and with what, and its bytes. What calls reply stands in the golden cases too.
+ghost use Rattle.std.specs.Prelude.{◌≡◌};
+ghost use Rattle.awaited_msg.specs.Limits.{is_queue_call};
+
 use awaited_msg::Queue;
 use pico_base::{Bytes, Call, Errno, Id, Memory, Node, Pid, Reply, UnpackFault};
 use std::alloc::Global;
@@ -55,7 +58,9 @@ fn sets(pid: u32, qbytes: u32) -> Waiting {
 }
 
 /// Whether the call is one that a queue carries out.
-fn is_here(call: &Call) -> bool {
+fn is_here(call: &Call) -> bool
+    ensures { result ≡ is_queue_call call.now }
+{
     match call {
         Call::MsgSnd { .. } => true,
         Call::MsgRcv { .. } => true,
@@ -67,7 +72,16 @@ fn is_here(call: &Call) -> bool {
 
 /// What the call comes to, if it may be made.
 fn applied(queue: &mut Queue, who: Waiting) -> Option<Applied> {
-    if who.ticket < 1 || !is_here(&who.call) || queue.waits(who.pid) || queue.waiting() >= 32 {
+    if who.ticket < 1 {
+        return None;
+    }
+    if !is_here(&who.call) {
+        return None;
+    }
+    if queue.waits(who.pid) {
+        return None;
+    }
+    if queue.waiting() >= 32 {
         return None;
     }
     queue.apply(who).ok()
@@ -83,13 +97,9 @@ fn parks(queue: &mut Queue, who: Waiting) -> bool {
 
 /// Whom the call wakes, if it has this reply.
 fn wakes(queue: &mut Queue, who: Waiting, reply: &Reply) -> Option<Wakes> {
-    match applied(queue, who)? {
-        Applied {
-            own: Some(own),
-            wakes,
-        } => { if own == *reply { Some(wakes) } else { None } }
-        _ => None,
-    }
+    let Applied { own, wakes } = applied(queue, who)?;
+    let own = own?;
+    if own == *reply { Some(wakes) } else { None }
 }
 
 /// Whether the call has this reply, and wakes nobody.
