@@ -5,3 +5,7 @@ mod Effects
 mod Finish
 mod Steps
 mod Wakes
+mod Queues
+mod Sets
+mod Processes
+mod Withdrawals
