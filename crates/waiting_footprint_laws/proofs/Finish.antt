@@ -22,16 +22,17 @@ use Rattle.waiting_footprint_laws.proofs.Moved.{Moved, marks_in, doomed_in, move
 use Rattle.waiting_footprint_laws.proofs.Effects.{AllMoved, IsOrphan, Stepped, has_marks, has_whole, marks-same}
 
 -- marks of a doomed caller
-abbrev spent_marks : Bool → Marks → Marks
+abbrev pub spent_marks : Bool → Marks → Marks
 spent_marks true m = record m { allowance = Spent }
 spent_marks false m = m
 
 -- marks by whether the call has a reply
-abbrev replied_marks : Call → Option Reply → Marks → Marks
+abbrev pub replied_marks : Call → Option Reply → Marks → Marks
 replied_marks call None m = record m { parked = Some call }
 replied_marks call (Some reply) m = marks_after_reply m
 
-abbrev finished_marks : Call → Option Reply → Bool → Marks → Marks
+-- marks of a caller whose call is done, by whether it is doomed
+abbrev pub finished_marks : Call → Option Reply → Bool → Marks → Marks
 finished_marks call own doomed m = replied_marks call own (spent_marks doomed m)
 
 -- What finishing leaves at each number.
@@ -67,7 +68,8 @@ finished-marked call (Some reply) b (Some (Living a)) = refl
 finished-marked call own b (Some (Ended ending)) = refl
 finished-marked call own b (Some Gone) = refl
 
-finished-at : (k : Kernel) (pid : ℕ) (call : Call) (own : Option Reply)
+-- of the caller
+pub finished-at : (k : Kernel) (pid : ℕ) (call : Call) (own : Option Reply)
     → get (finish_call k pid call own).processes pid
     ≡ remarked (finished_marks call own (doomed_in (get k.processes pid))) (get k.processes pid)
 finished-at k pid call own =
@@ -75,7 +77,8 @@ finished-at k pid call own =
     ∙ ap (option_map (where_living (after_call call own))) (allowed-at k pid (get k.processes pid) refl)
     ∙ finished-marked call own (doomed_in (get k.processes pid)) (get k.processes pid)
 
-finished-other : (k : Kernel) (pid : ℕ) (call : Call) (own : Option Reply) (q : ℕ) → q ≢ pid
+-- and of another
+pub finished-other : (k : Kernel) (pid : ℕ) (call : Call) (own : Option Reply) (q : ℕ) → q ≢ pid
     → get (finish_call k pid call own).processes q ≡ get k.processes q
 finished-other k pid call own q ne =
     changed-other (allowance_after k pid (living_at k pid)).processes pid (after_call call own) q ne
@@ -88,13 +91,38 @@ pub record Kept (j k : Kernel) : Type 0 where
   pub sets : j.sets ≡ k.sets
   pub queue_keys : j.queue_keys ≡ k.queue_keys
   pub set_keys : j.set_keys ≡ k.set_keys
+  pub used_processes : j.used_processes ≡ k.used_processes
+  pub used_queues : j.used_queues ≡ k.used_queues
+  pub used_sets : j.used_sets ≡ k.used_sets
+
+kept-self : (k : Kernel) → Kept k k
+kept-self k =
+    record {
+      queues = refl;
+      sets = refl;
+      queue_keys = refl;
+      set_keys = refl;
+      used_processes = refl;
+      used_queues = refl;
+      used_sets = refl;
+    }
 
 kept-if : (k : Kernel) (pid : ℕ) (a : Alive) (b : Bool) → Kept (if b then with_alive k pid (spent a) else k) k
-kept-if k pid a true = record { queues = refl; sets = refl; queue_keys = refl; set_keys = refl }
-kept-if k pid a false = record { queues = refl; sets = refl; queue_keys = refl; set_keys = refl }
+kept-if k pid a true =
+    record {
+      queues = refl;
+      sets = refl;
+      queue_keys = refl;
+      set_keys = refl;
+      used_processes = refl;
+      used_queues = refl;
+      used_sets = refl;
+    }
+kept-if k pid a false = kept-self k
 
-kept-allowance : (k : Kernel) (pid : ℕ) (o : Option Alive) → Kept (allowance_after k pid o) k
-kept-allowance k pid None = record { queues = refl; sets = refl; queue_keys = refl; set_keys = refl }
+-- what the caller's allowance leaves alone
+pub kept-allowance : (k : Kernel) (pid : ℕ) (o : Option Alive) → Kept (allowance_after k pid o) k
+kept-allowance k pid None = kept-self k
 kept-allowance k pid (Some a) = kept-if k pid a (is_some a.row.signals.doom)
 
 orphan-if : (k : Kernel) (pid : ℕ) (a : Alive) (b : Bool) (p : ℕ) → living_at k pid ≡ Some a → IsOrphan k p

@@ -9,3 +9,6 @@ mod Queues
 mod Sets
 mod Processes
 mod Withdrawals
+mod Ends
+mod Growth
+mod Law
