@@ -12,3 +12,7 @@ mod Withdrawals
 mod Ends
 mod Growth
 mod Law
+mod Kin
+mod Doomed
+mod Sound
+mod Reachable
