@@ -1,17 +1,17 @@
 -- A living process is doomed exactly where its allowance isn't free, as calls change it.
-use Rattle.std.proofs.Common.{◌≡◌, ◌≢◌, ◌↔◌, ◌∙◌, ℕ, Bool, true, false, Option, Some, None, is_some, refl, ap, sym}
+use Rattle.std.proofs.Common.{◌≡◌, ◌≢◌, ◌↔◌, ◌∙◌, ℕ, Bool, true, false, Option, Some, None, is_some, refl, sym}
 use Rattle.pico_base.specs.declared.call.Call.{Call}
 use Rattle.pico_base.specs.declared.reply.Ending.{Ending}
 use Rattle.pico_base.specs.declared.reply.Reply.{Reply}
 use Rattle.pico_base.specs.declared.signal.Sig.{Sig}
 use Rattle.pico_base.specs.declared.signal.Sig.TheVariants.{Chld}
-use Rattle.kernel_model.specs.Row.{Allowance, Free, One, Spent, Waited, Found, NotYet, NoChild, allowance_after_raise, family_after_end, ignores_children}
+use Rattle.kernel_model.specs.Row.{Allowance, Free, Spent, Waited, Found, NotYet, NoChild, allowance_after_raise, family_after_end, ignores_children}
 use Rattle.kernel_model.specs.Signals.{Signals, raise}
 use Rattle.kernel_laws.proofs.SignalLaws.{Stays, raise-stays}
 use Rattle.waiting_model.specs.Marks.{Alive, raise_by_other, with_family, with_signals_of}
 use Rattle.waiting_model.specs.ProcessCalls.{after_waiting, found_after_end, parent_after_end, raise_chld}
 use Rattle.waiting_footprint_laws.proofs.Moved.{remark}
-use Rattle.waiting_footprint_laws.proofs.Finish.{finished_marks, replied_marks, spent_marks}
+use Rattle.waiting_footprint_laws.proofs.Finish.{finished_marks, spent_marks}
 
 -- Between entries.
 abbrev pub IsFair : ℕ → Alive → Type 0

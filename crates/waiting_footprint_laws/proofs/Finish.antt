@@ -10,7 +10,7 @@ use Rattle.number_maps.specs.Maps.{Numbered, get}
 use Rattle.number_maps.proofs.LookUps.{get-put-same, get-put-other}
 use Rattle.kernel_model.specs.Row.{Allowance, Free, Spent}
 use Rattle.waiting_model.specs.Marks.{Alive, Marks, marks_after_reply, spent}
-use Rattle.waiting_model.specs.Kernel.{Kernel, Process, Living, Ended, Gone, alive_in, change_living, living_at, where_living, with_alive}
+use Rattle.waiting_model.specs.Kernel.{Kernel, Process, Living, Ended, Gone, alive_in, living_at, where_living, with_alive}
 use Rattle.waiting_model.specs.Transition.{after_call, allowance_after, finish_call}
 use Rattle.waiting_footprint_laws.specs.Footprint.{Part}
 use Rattle.waiting_footprint_laws.specs.Law.{AgreeOn}
@@ -18,7 +18,7 @@ use Rattle.waiting_footprint_laws.specs.Valid.{IsValid, IsValidProcess}
 use Rattle.footprint_laws.proofs.Change.{change-move}
 use Rattle.waiting_footprint_laws.proofs.Changed.{changed-same, changed-other, orphan-changed}
 use Rattle.waiting_footprint_laws.proofs.Parents.{orphan-put, orphan-unlisted}
-use Rattle.waiting_footprint_laws.proofs.Moved.{Moved, marks_in, doomed_in, moved-move, moved-doomed, moved-remark, remark, remarked}
+use Rattle.waiting_footprint_laws.proofs.Moved.{Moved, marks_in, doomed_in, moved-move, moved-doomed, moved-remark, remarked}
 use Rattle.waiting_footprint_laws.proofs.Effects.{AllMoved, IsOrphan, Stepped, has_marks, has_whole, marks-same}
 
 -- marks of a doomed caller
@@ -183,7 +183,7 @@ doomed-by (Some Gone) (Some Gone) v w h = refl
 
 -- The step.
 
-module _ (parts : List Part) (j k : Kernel) (h : AgreeOn parts j k) (pid : ℕ) (marked : has_marks parts pid ≡ true) where
+module _ (parts : List Part) (j k : Kernel) (h : AgreeOn parts j k) where
   -- the same change of the marks of a process whose marks are a part
   pub remarked-at : (n : ℕ) (f : Marks → Marks) (a b c d : Numbered Process) → has_marks parts n ≡ true
       → AllMoved parts j k a b
@@ -201,6 +201,8 @@ module _ (parts : List Part) (j k : Kernel) (h : AgreeOn parts j k) (pid : ℕ) 
         | inr ne ↦ moved-move _ _ _ _ _ _ _ _ (m p) (u p ne) (v p ne)
       ]
 
+module _ (parts : List Part) (j k : Kernel) (h : AgreeOn parts j k) (pid : ℕ)
+    (marked : has_marks parts pid ≡ true) where
   finished-moved : (to_j to_k : Kernel) (call : Call) (own : Option Reply) → IsValid j → IsValid k
       → AllMoved parts j k to_j.processes to_k.processes
       → AllMoved parts j k (finish_call to_j pid call own).processes (finish_call to_k pid call own).processes
@@ -209,7 +211,8 @@ module _ (parts : List Part) (j k : Kernel) (h : AgreeOn parts j k) (pid : ℕ) 
       sym (moved-doomed _ _ _ _ _ _ (m pid)
       (doomed-by (get j.processes pid) (get k.processes pid) (vj.alive pid) (vk.alive pid)
       (marks-same parts pid j k marked h)))
-      in remarked-at pid (finished_marks call own (doomed_in (get to_j.processes pid))) to_j.processes to_k.processes
+      in remarked-at parts j k h pid (finished_marks call own (doomed_in (get to_j.processes pid))) to_j.processes
+      to_k.processes
       (finish_call to_j pid call own).processes (finish_call to_k pid call own).processes marked m
       (finished-at to_j pid call own)
       (finished-at to_k pid call own

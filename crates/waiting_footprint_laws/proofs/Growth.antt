@@ -30,11 +30,11 @@ use Rattle.waiting_model.specs.Effect.{Effect, on_named, outcome_of_effect, park
 use Rattle.waiting_model.specs.ProcessCalls.{parent_after_fork, new_child, processes_after_fork, reap_child, action_effect, kill_at, signal_living, kill}
 use Rattle.waiting_model.specs.QueueCalls.{get_queue_at, new_queue}
 use Rattle.waiting_model.specs.SetCalls.{find_set, get_set_at, new_set_of}
-use Rattle.waiting_model.specs.Transition.{Successor, successor, effect, finish_call, may_make, may_withdraw, outcome_of, queue_without, set_without, step_by, transition, transition_by, unparked, withdraw, withdrawn}
+use Rattle.waiting_model.specs.Transition.{Successor, successor, effect, finish_call, may_make, may_withdraw, outcome_of, queue_without, set_without, step_by, transition, transition_by, withdraw, withdrawn}
 use Rattle.waiting_footprint_laws.specs.Footprint.{has_created, is_there, used_for, used_of}
 use Rattle.waiting_footprint_laws.specs.Law.{GrowsBy}
 use Rattle.waiting_footprint_laws.specs.Valid.{IsValid}
-use Rattle.waiting_footprint_laws.proofs.Moved.{doomed_in, remarked}
+use Rattle.waiting_footprint_laws.proofs.Moved.{remarked}
 use Rattle.waiting_footprint_laws.proofs.Finish.{Kept, kept-allowance, finished-at, finished-other}
 
 -- the numbers used after an effect
@@ -247,22 +247,34 @@ module _ (k : Kernel) (pid : ℕ) (a : Alive) (n : ℕ) (v : IsValid k) where
   grew-effect (calls.MsgGet None create excl) u = grew-new_queue k n k.queue_keys
   grew-effect (calls.MsgGet (Some key) create excl) u =
       grew-get_queue_at k n key create excl (get k.queue_keys key) (quiet-queues k n v u)
-  grew-effect (calls.MsgSnd id class text nowait) u = from-keeps n k _ (keeps-named k (get k.queues id) _ (λ q kind. refl))
-  grew-effect (calls.MsgRcv id class size noerror nowait) u = from-keeps n k _ (keeps-named k (get k.queues id) _ (λ q kind. refl))
-  grew-effect (calls.MsgStat id) u = from-keeps n k _ (keeps-named k (get k.queues id) _ (λ q kind. refl))
-  grew-effect (calls.MsgSet id qbytes) u = from-keeps n k _ (keeps-named k (get k.queues id) _ (λ q kind. refl))
+  grew-effect (calls.MsgSnd id class text nowait) u =
+      from-keeps n k _ (keeps-named k (get k.queues id) _ (λ q kind. refl))
+  grew-effect (calls.MsgRcv id class size noerror nowait) u =
+      from-keeps n k _ (keeps-named k (get k.queues id) _ (λ q kind. refl))
+  grew-effect (calls.MsgStat id) u =
+      from-keeps n k _ (keeps-named k (get k.queues id) _ (λ q kind. refl))
+  grew-effect (calls.MsgSet id qbytes) u =
+      from-keeps n k _ (keeps-named k (get k.queues id) _ (λ q kind. refl))
   grew-effect (calls.MsgRmid id) u = from-keeps n k _ (keeps-named k (get k.queues id) _ (λ q kind. refl))
   grew-effect (calls.SemGet None count create excl) u = grew-new_set k n k.set_keys (new_set count) (quiet-sets k n v u)
   grew-effect (calls.SemGet (Some key) count create excl) u =
       grew-get_set_at k n key count create excl (get k.set_keys key) (quiet-sets k n v u)
-  grew-effect (calls.SemOp id steps) u = from-keeps n k _ (keeps-named k (get k.sets id) _ (λ s kind. refl))
-  grew-effect (calls.SemGetVal id num) u = from-keeps n k _ (keeps-named k (get k.sets id) _ (λ s kind. refl))
-  grew-effect (calls.SemGetPid id num) u = from-keeps n k _ (keeps-named k (get k.sets id) _ (λ s kind. refl))
-  grew-effect (calls.SemGetNcnt id num) u = from-keeps n k _ (keeps-named k (get k.sets id) _ (λ s kind. refl))
-  grew-effect (calls.SemGetZcnt id num) u = from-keeps n k _ (keeps-named k (get k.sets id) _ (λ s kind. refl))
-  grew-effect (calls.SemSetVal id num value) u = from-keeps n k _ (keeps-named k (get k.sets id) _ (λ s kind. refl))
-  grew-effect (calls.SemGetAll id) u = from-keeps n k _ (keeps-named k (get k.sets id) _ (λ s kind. refl))
-  grew-effect (calls.SemSetAll id values) u = from-keeps n k _ (keeps-named k (get k.sets id) _ (λ s kind. refl))
+  grew-effect (calls.SemOp id steps) u =
+      from-keeps n k _ (keeps-named k (get k.sets id) _ (λ s kind. refl))
+  grew-effect (calls.SemGetVal id num) u =
+      from-keeps n k _ (keeps-named k (get k.sets id) _ (λ s kind. refl))
+  grew-effect (calls.SemGetPid id num) u =
+      from-keeps n k _ (keeps-named k (get k.sets id) _ (λ s kind. refl))
+  grew-effect (calls.SemGetNcnt id num) u =
+      from-keeps n k _ (keeps-named k (get k.sets id) _ (λ s kind. refl))
+  grew-effect (calls.SemGetZcnt id num) u =
+      from-keeps n k _ (keeps-named k (get k.sets id) _ (λ s kind. refl))
+  grew-effect (calls.SemSetVal id num value) u =
+      from-keeps n k _ (keeps-named k (get k.sets id) _ (λ s kind. refl))
+  grew-effect (calls.SemGetAll id) u =
+      from-keeps n k _ (keeps-named k (get k.sets id) _ (λ s kind. refl))
+  grew-effect (calls.SemSetAll id values) u =
+      from-keeps n k _ (keeps-named k (get k.sets id) _ (λ s kind. refl))
   grew-effect (calls.SemRmid id) u = from-keeps n k _ (keeps-named k (get k.sets id) _ (λ s kind. refl))
   grew-effect (calls.Withdraw name) u = tt
 
@@ -321,7 +333,8 @@ set-used : (k : Kernel) (id pid : ℕ) (o : Option (Awaited SemaphoreSet)) (kind
 set-used k id pid None kind = refl
 set-used k id pid (Some s) kind = refl
 
-withdrawn-used : (k : Kernel) (pid : ℕ) (name : Name) (kind : Kind) → used_of (withdrawn k pid name) kind ≡ used_of k kind
+withdrawn-used : (k : Kernel) (pid : ℕ) (name : Name) (kind : Kind)
+    → used_of (withdrawn k pid name) kind ≡ used_of k kind
 withdrawn-used k pid (Proc own) kind = refl
 withdrawn-used k pid (Msg id) kind = queue-used k id pid (get k.queues id) kind
 withdrawn-used k pid (Sem id) kind = set-used k id pid (get k.sets id) kind

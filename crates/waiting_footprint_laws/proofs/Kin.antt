@@ -226,7 +226,8 @@ module _ (P : ℕ → Alive → Type 0) (ps : Numbered Process) (used : List ℕ
             let before : living_in qs p ≡ Some b = sym (living-put-other qs pid parent p ne) ∙ l
             in elim (cases_eq p n) [
               | inl e ↦
-                  inr (inl (e, from_some (new_child a) b (sym (living-put-same ps n (Living (new_child a)) p e) ∙ before)))
+                  let there = living-put-same ps n (Living (new_child a)) p e
+                  in inr (inl (e, from_some (new_child a) b (sym there ∙ before)))
               | inr off ↦ inr (inr (sym (living-put-other ps n (Living (new_child a)) p off) ∙ before))
             ]
       ]

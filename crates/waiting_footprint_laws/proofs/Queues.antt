@@ -1,6 +1,6 @@
 -- The law at the calls on message queues.
 use Rattle.std.proofs.Common.{◌≡◌, ℕ, Bool, true, false, ◌&&◌, List, [], ◌∷◌, map, fold, Option, Some, None, refl, sym, subst}
-use Rattle.std.specs.Prelude.{ℤ, if◌then◌else◌}
+use Rattle.std.specs.Prelude.{if◌then◌else◌}
 use Rattle.std.specs.List.{list_any}
 use Rattle.std.proofs.lemmas.Bool.{or_left, or_right}
 use Rattle.pico_base.specs.declared.call.Call.{Call}
@@ -73,7 +73,7 @@ module _ (parts : List Part) (n : ℕ) (j k : Kernel) (childless : Childless par
 
     -- the same queue is removed
     removed-alike : ((key : ℕ) → get j.queue_keys key ≡ get k.queue_keys key)
-        → has_queue_keys parts 0 ≡ true
+        → ((key : ℕ) → has_queue_keys parts key ≡ true)
         → IsValid j → IsValid k
         → SameEffect parts j k (remove_queue j id q) (remove_queue k id q)
     removed-alike keys t vj vk =
@@ -85,7 +85,7 @@ module _ (parts : List Part) (n : ℕ) (j k : Kernel) (childless : Childless par
         k.processes (moved-none parts j k))
         (changes-without (has_queue parts) j.queues k.queues j.queues k.queues id here
         (changes-none (has_queue parts) j.queues k.queues))
-        (λ key. Same t (unbound-same j.queue_keys k.queue_keys id key vj.queue_keys vk.queue_keys (keys key)))
+        (λ key. Same (t key) (unbound-same j.queue_keys k.queue_keys id key vj.queue_keys vk.queue_keys (keys key)))
 
   new-alike : (keys_j keys_k : Numbered ℕ) → Changes (has_queue_keys parts) j.queue_keys k.queue_keys keys_j keys_k
       → has_queue parts n ≡ true
@@ -151,7 +151,7 @@ remove_queue-law j k pid n id vj vk h uj uk =
     in away-steps parts n j k pid (calls.MsgRmid id) h (or_left _ _ (eq-same pid)) vj vk refl (λ a. refl)
     (λ a b. named-alike parts j k childless (get j.queues id) (get k.queues id) _ _ h.1.1.0
     (λ q e. removed-alike parts n j k childless h id (or_left _ _ (eq-same id)) q
-    (waiters-marked parts (get j.queues id) q e (λ p u. or_right _ _ u)) h.1.0 refl vj vk))
+    (waiters-marked parts (get j.queues id) q e (λ p u. or_right _ _ u)) h.1.0 (λ key. refl) vj vk))
 
 -- A get, at the caller or at the keys.
 

@@ -1,9 +1,8 @@
 -- Each kernel that a legal history leads to is valid.
-use Rattle.std.proofs.Common.{◌≡◌, ◌∙◌, ℕ, true, List, [], ◌∷◌, Option, Some, None, refl, ap, sym, subst, inl, inr}
+use Rattle.std.proofs.Common.{◌≡◌, ◌∙◌, ℕ, true, List, [], ◌∷◌, Option, Some, refl, ap, sym, subst, inl, inr}
 use Rattle.std.specs.Option.{option_and_then}
 use Rattle.std.proofs.lemmas.Bool.{cases_eq, false≢true}
 use Rattle.pico_base.specs.declared.reply.Entry.{Entry}
-use Rattle.number_maps.specs.Maps.{get}
 use Rattle.number_maps.proofs.LookUps.{get-later}
 use Rattle.number_maps.proofs.Rising.{rising-nothing, rising-put}
 use Rattle.kernel_model.specs.Row.{lists}
@@ -12,9 +11,9 @@ use Rattle.kernel_laws.proofs.Tables.{table-empty}
 use Rattle.waiting_model.specs.Marks.{Alive, new_alive}
 use Rattle.waiting_model.specs.Kernel.{Kernel, Process, Living, alive_in, living_in, opening}
 use Rattle.waiting_model.specs.History.{Replays}
-use Rattle.waiting_model.specs.Transition.{Successor, successor, transition}
+use Rattle.waiting_model.specs.Transition.{Successor, successor}
 use Rattle.waiting_laws.specs.Parked.{ReachableWaitsFindNothing}
-use Rattle.waiting_footprint_laws.specs.Valid.{IsValid, ReachableKernelsAreValid}
+use Rattle.waiting_footprint_laws.specs.Valid.{ReachableKernelsAreValid}
 use Rattle.waiting_footprint_laws.proofs.Kin.{People}
 use Rattle.waiting_footprint_laws.proofs.Doomed.{IsFair}
 use Rattle.waiting_footprint_laws.proofs.Sound.{IsSound, entry-sound}

@@ -54,7 +54,7 @@ module _ (parts : List Part) (n : ℕ) (j k : Kernel) (childless : Childless par
         (changes-none (has_set_keys parts) j.set_keys k.set_keys)
 
     -- the same set is removed
-    removed-alike : ((key : ℕ) → get j.set_keys key ≡ get k.set_keys key) → has_set_keys parts 0 ≡ true
+    removed-alike : ((key : ℕ) → get j.set_keys key ≡ get k.set_keys key) → ((key : ℕ) → has_set_keys parts key ≡ true)
         → IsValid j → IsValid k → SameEffect parts j k (remove_set j id s) (remove_set k id s)
     removed-alike keys t vj vk =
         let wakes = wakes_at_removal s
@@ -65,7 +65,7 @@ module _ (parts : List Part) (n : ℕ) (j k : Kernel) (childless : Childless par
         k.processes (moved-none parts j k))
         (changes-without (has_set parts) j.sets k.sets j.sets k.sets id here
         (changes-none (has_set parts) j.sets k.sets))
-        (λ key. Same t (unbound-same j.set_keys k.set_keys id key vj.set_keys vk.set_keys (keys key)))
+        (λ key. Same (t key) (unbound-same j.set_keys k.set_keys id key vj.set_keys vk.set_keys (keys key)))
 
   new-alike : (keys_j keys_k : Numbered ℕ) (r : Result SemaphoreSet Errno)
       → Changes (has_set_keys parts) j.set_keys k.set_keys keys_j keys_k → has_set parts n ≡ true
@@ -137,7 +137,7 @@ remove_set-law j k pid n id vj vk h uj uk =
     in away-steps parts n j k pid (calls.SemRmid id) h (or_left _ _ (eq-same pid)) vj vk refl (λ a. refl)
     (λ a b. named-alike parts j k childless (get j.sets id) (get k.sets id) _ _ h.1.1.0
     (λ s e. removed-alike parts n j k childless h id (or_left _ _ (eq-same id)) s
-    (waiters-marked parts (get j.sets id) s e (λ p u. or_right _ _ u)) h.1.0 refl vj vk))
+    (waiters-marked parts (get j.sets id) s e (λ p u. or_right _ _ u)) h.1.0 (λ key. refl) vj vk))
 
 -- A get, at the caller or at the keys.
 

@@ -1,5 +1,5 @@
 -- Each entry keeps processes, families, tables of keys and used numbers in order.
-use Rattle.std.proofs.Common.{◌≡◌, ◌≢◌, ◌∙◌, ◌%◌, ◌&&◌, ℕ, Bool, true, false, nat_eq, List, [], ◌∷◌, fold, Option, Some, None, Result, Ok, Err, is_some, refl, ap, sym, subst, inl, inr}
+use Rattle.std.proofs.Common.{◌≡◌, ◌≢◌, ◌∙◌, ◌%◌, ◌&&◌, ℕ, Bool, true, false, nat_eq, List, [], fold, Option, Some, None, Result, Ok, Err, is_some, refl, ap, sym, subst, inl, inr}
 use Rattle.std.specs.Prelude.{if◌then◌else◌}
 use Rattle.std.specs.List.{list_any}
 use Rattle.std.specs.Option.{option_and_then}
@@ -17,7 +17,7 @@ use Rattle.pico_base.specs.declared.signal.Act.{Act}
 use Rattle.pico_base.specs.declared.signal.Sig.{Sig}
 use Rattle.pico_base.specs.declared.signal.SigArg.{SigArg}
 use Rattle.pico_base.specs.declared.signal.SigArg.TheVariants.{Zero, Is, Bad}
-use Rattle.number_maps.specs.Maps.{Numbered, get, put, used_with}
+use Rattle.number_maps.specs.Maps.{Numbered, get, put}
 use Rattle.number_maps.specs.Rising.{IsRising}
 use Rattle.number_maps.proofs.Rising.{rising-put}
 use Rattle.kernel_model.specs.Effect.{is_fresh}
@@ -37,11 +37,10 @@ use Rattle.waiting_model.specs.SemaphoreSet.{carry_out_on_set}
 use Rattle.waiting_model.specs.Marks.{Alive, after_reply, spent, raise_by_other, with_signals_of}
 use Rattle.waiting_model.specs.Kernel.{Kernel, Parent, Process, Living, Ended, Gone, alive_in, change_living, living_at, living_in, parent_in, wake_one, with_alive}
 use Rattle.waiting_model.specs.Effect.{Effect, on_named, park, refuse, replying, reply_with}
-use Rattle.waiting_model.specs.ProcessCalls.{action_effect, bury_all, bury_found, end_process, end_under, found_after_end, fork_effect, kill, kill_at, parent_after_end, parent_after_fork, parent_after_wait, new_child, process_after_end, reap_child, signal_living}
+use Rattle.waiting_model.specs.ProcessCalls.{action_effect, bury_all, bury_found, end_process, end_under, found_after_end, fork_effect, kill, kill_at, parent_after_end, parent_after_wait, reap_child, signal_living}
 use Rattle.waiting_model.specs.QueueCalls.{get_queue_at, new_queue, on_queue, remove_queue}
 use Rattle.waiting_model.specs.SetCalls.{find_set, get_set_at, new_set_of, on_set, remove_set}
-use Rattle.waiting_model.specs.Transition.{Successor, effect, after_call, allowance_after, finish_call, may_make, may_withdraw, outcome_of, queue_without, set_without, step_by, transition, transition_by, unparked, withdraw}
-use Rattle.waiting_footprint_laws.proofs.Changed.{changed-same}
+use Rattle.waiting_model.specs.Transition.{Successor, effect, after_call, allowance_after, finish_call, may_make, may_withdraw, outcome_of, queue_without, set_without, step_by, transition, transition_by, withdraw}
 use Rattle.waiting_footprint_laws.proofs.Parents.{parent-is}
 use Rattle.waiting_footprint_laws.proofs.Moved.{doomed_in, remark, remarked}
 use Rattle.waiting_footprint_laws.proofs.Finish.{Kept, finished_marks, finished-at, finished-other, kept-allowance}
@@ -515,7 +514,8 @@ module _ (k : Kernel) (sound : IsSound k) (pid : ℕ) where
 abbrev LeadsSound : Successor → Type 0
 LeadsSound s = IsSound s.kernel
 
-outcome-sound : (pid : ℕ) (call : Call) (o : Option Effect) → Of (IsMidway pid) o → Of LeadsSound (outcome_of pid call o)
+outcome-sound : (pid : ℕ) (call : Call) (o : Option Effect) → Of (IsMidway pid) o
+    → Of LeadsSound (outcome_of pid call o)
 outcome-sound pid call None h = tt
 outcome-sound pid call (Some e) h = finished-sound e.kernel pid call e.own h.order
 

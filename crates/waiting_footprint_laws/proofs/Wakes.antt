@@ -1,20 +1,16 @@
 -- Who is woken waited there, and has its marks changed alike in both kernels.
-use Rattle.std.proofs.Common.{◌≡◌, ℕ, zero, suc, Bool, true, List, [], ◌∷◌, length, map, fold, Option, Some, None, refl}
+use Rattle.std.proofs.Common.{◌≡◌, ℕ, zero, suc, Bool, true, List, [], ◌∷◌, length, map, fold, Option, Some, None}
 use Rattle.std.specs.List.{list_any, AllByRecursion}
 use Rattle.std.proofs.lemmas.Bool.{or_left, or_right}
-use Rattle.pico_base.specs.declared.call.Call.{Call}
-use Rattle.pico_base.specs.declared.call.Call.TheVariants as calls
 use Rattle.pico_base.specs.declared.reply.Reply.{Reply}
 use Rattle.number_maps.specs.Maps.{Numbered}
 use Rattle.number_maps.proofs.Order.{eq-same}
-use Rattle.kernel_model.specs.SemaphoreSet.{SemaphoreSet}
 use Rattle.waiting_model.specs.declared.callers.Waiting.{Waiting}
 use Rattle.waiting_model.specs.declared.callers.Wake.{Wake}
 use Rattle.waiting_model.specs.Waiters.{Attempt, Awaited, Ready, Settled, Try, awaited, carry_out_by, first_ready, ready_or, settle_by, settle_on, wake}
-use Rattle.waiting_model.specs.SemaphoreSet.{carry_out_on_set_by}
 use Rattle.waiting_model.specs.Marks.{after_reply, marks_after_reply}
-use Rattle.waiting_model.specs.Kernel.{Kernel, Process, change_living, wake_one}
-use Rattle.waiting_footprint_laws.specs.Footprint.{Part, MarksOf, parts_of_waiters}
+use Rattle.waiting_model.specs.Kernel.{Kernel, Process, wake_one}
+use Rattle.waiting_footprint_laws.specs.Footprint.{Part, MarksOf}
 use Rattle.waiting_footprint_laws.specs.Law.{AgreeOn, is_marks}
 use Rattle.waiting_footprint_laws.proofs.Changed.{changed-same, changed-other}
 use Rattle.waiting_footprint_laws.proofs.Effects.{AllMoved, has_marks}
@@ -85,6 +81,6 @@ pub woken-moved : (parts : List Part) (j k : Kernel) → AgreeOn parts j k → (
 woken-moved parts j k h [] t a b m = m
 woken-moved parts j k h (w ∷ wakes) t a b m =
     woken-moved parts j k h wakes t.1 (wake_one a w) (wake_one b w)
-    (remarked-at parts j k h w.pid t.0 w.pid marks_after_reply a b (wake_one a w) (wake_one b w) t.0 m
+    (remarked-at parts j k h w.pid marks_after_reply a b (wake_one a w) (wake_one b w) t.0 m
     (changed-same a w.pid after_reply) (changed-same b w.pid after_reply)
     (changed-other a w.pid after_reply) (changed-other b w.pid after_reply))

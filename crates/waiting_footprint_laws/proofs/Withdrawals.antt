@@ -1,5 +1,5 @@
 -- The law at a withdrawal.
-use Rattle.std.proofs.Common.{◌≡◌, ◌∙◌, ◌&&◌, ℕ, Bool, true, false, cond, List, [], ◌∷◌, Option, Some, None, refl, ap, sym, subst}
+use Rattle.std.proofs.Common.{◌≡◌, ◌∙◌, ◌&&◌, ℕ, Bool, true, false, cond, List, ◌∷◌, Option, Some, None, refl, ap, sym, subst}
 use Rattle.std.specs.Prelude.{◌==◌, if◌then◌else◌}
 use Rattle.std.specs.Option.{option_map}
 use Rattle.std.proofs.lemmas.Bool.{false≢true, or_left}
@@ -17,12 +17,12 @@ use Rattle.kernel_model.specs.SemaphoreSet.{SemaphoreSet}
 use Rattle.waiting_model.specs.Waiters.{Awaited, without_waiter}
 use Rattle.waiting_model.specs.Marks.{Alive, Marks, after_reply, is_parked_at, marks_after_reply}
 use Rattle.waiting_model.specs.Kernel.{Kernel, change_living, living_at}
-use Rattle.waiting_model.specs.Transition.{may_withdraw, queue_without, set_without, step_by, transition, transition_by, unparked, withdraw, withdrawn}
+use Rattle.waiting_model.specs.Transition.{may_withdraw, queue_without, set_without, transition, transition_by, unparked, withdraw, withdrawn}
 use Rattle.footprint_laws.proofs.Change.{changes-none, changes-put}
 use Rattle.waiting_footprint_laws.specs.Footprint.{Part, MarksOf, QueueAt, SetAt, home_parts, parts_of_waiters}
 use Rattle.waiting_footprint_laws.specs.Law.{AgreeOn}
 use Rattle.waiting_footprint_laws.proofs.Changed.{changed-same, changed-other}
-use Rattle.waiting_footprint_laws.proofs.Effects.{AlikeStep, AlikeSteps, AllMoved, Childless, Stepped, has_marks, has_queue, has_queue_keys, has_set, has_set_keys, marks-same, moved-none, step-from}
+use Rattle.waiting_footprint_laws.proofs.Effects.{AlikeSteps, AllMoved, Childless, Stepped, has_marks, has_queue, has_queue_keys, has_set, has_set_keys, marks-same, moved-none, step-from}
 use Rattle.waiting_footprint_laws.proofs.Finish.{remarked-at}
 use Rattle.waiting_footprint_laws.proofs.Steps.{LawAt}
 use Rattle.waiting_footprint_laws.proofs.Queues.{waiters-childless}
@@ -33,7 +33,7 @@ module _ (parts : List Part) (j k : Kernel) (h : AgreeOn parts j k) (pid : ℕ) 
   replied-moved : AllMoved parts j k (change_living j.processes pid after_reply)
       (change_living k.processes pid after_reply)
   replied-moved =
-      remarked-at parts j k h pid marked pid marks_after_reply j.processes k.processes
+      remarked-at parts j k h pid marks_after_reply j.processes k.processes
       (change_living j.processes pid after_reply) (change_living k.processes pid after_reply) marked
       (moved-none parts j k) (changed-same j.processes pid after_reply) (changed-same k.processes pid after_reply)
       (changed-other j.processes pid after_reply) (changed-other k.processes pid after_reply)

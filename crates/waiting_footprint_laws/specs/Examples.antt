@@ -8,11 +8,11 @@ use Rattle.pico_base.specs.declared.signal.Sig.TheVariants.{Usr1}
 use Rattle.pico_base.specs.declared.signal.SigArg.TheVariants.{Is}
 use Rattle.number_maps.specs.Maps.{get}
 use Rattle.kernel_model.specs.Row.{ended_child, new_row}
-use Rattle.waiting_model.specs.Marks.{new_alive, new_marks}
+use Rattle.waiting_model.specs.Marks.{Alive, new_alive, new_marks}
 use Rattle.waiting_model.specs.Kernel.{Kernel, Living, Ended, Gone, opening}
 use Rattle.waiting_model.specs.Transition.{Successor, transition}
 use Rattle.waiting_model.specs.Examples.{Made, by, creating, kernel_after, made_first, receives, waits}
-use Rattle.waiting_footprint_laws.specs.Footprint.{Part, MarksOf, Whole, ParentOf, QueueAt, SetAt, SizeOf, QueueKeys, SetKeys, footprint}
+use Rattle.waiting_footprint_laws.specs.Footprint.{MarksOf, Whole, ParentOf, QueueAt, SetAt, SizeOf, QueueKeys, SetKeys, footprint}
 
 -- process 1 has made queue 1 and set 1, and forked 2 and 3; then these
 abbrev pub after : List Made → Kernel
@@ -64,22 +64,17 @@ gets_by_key = refl
 -- Why a valid process that waits for its children finds none that has ended: where one does, the end of another child
 -- gives it the one that ended before, which is no part of that end.
 
+abbrev pub impatient_parent : Alive
+impatient_parent =
+    record {
+      row = record new_row { family = record { living = 2 ∷ []; ended = ended_child 3 (Exited 0) ∷ [] } };
+      marks = record new_marks { parked = Some (calls.WaitPid None false) };
+    }
+
 abbrev pub impatient : Kernel
 impatient =
     record opening {
-      processes =
-          (
-            1,
-            Living (record {
-              row = record new_row {
-                family = record { living = 2 ∷ []; ended = ended_child 3 (Exited 0) ∷ [] };
-              };
-              marks = record new_marks { parked = Some (calls.WaitPid None false) };
-            }),
-          )
-          ∷ (2, Living new_alive)
-          ∷ (3, Ended (Exited 0))
-          ∷ [];
+      processes = (1, Living impatient_parent) ∷ (2, Living new_alive) ∷ (3, Ended (Exited 0)) ∷ [];
     }
 
 pub ends_under_an_impatient_parent : footprint impatient 2 (calls.Exit 0) 0

@@ -1,5 +1,5 @@
--- What a call looks at and changes where callers wait: its parts of the kernel. Two kernels that agree on these give the
--- same outcome.
+-- What a call looks at and changes where callers wait: its parts of the kernel. Two kernels that agree on these give
+-- the same outcome.
 use Rattle.std.specs.Prelude.{ℕ, Bool, false, ◌&&◌, List, [], ◌∷◌, ◌++◌, map, Option, Some, None, is_some}
 use Rattle.std.specs.Option.{option_map}
 use Rattle.pico_base.specs.declared.call.Call.{Call}
