@@ -14,5 +14,6 @@ mod Growth
 mod Law
 mod Kin
 mod Doomed
+mod Midway
 mod Sound
 mod Reachable

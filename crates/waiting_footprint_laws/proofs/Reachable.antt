@@ -16,7 +16,8 @@ use Rattle.waiting_laws.specs.Parked.{ReachableWaitsFindNothing}
 use Rattle.waiting_footprint_laws.specs.Valid.{ReachableKernelsAreValid}
 use Rattle.waiting_footprint_laws.proofs.Kin.{People}
 use Rattle.waiting_footprint_laws.proofs.Doomed.{IsFair}
-use Rattle.waiting_footprint_laws.proofs.Sound.{IsSound, entry-sound}
+use Rattle.waiting_footprint_laws.proofs.Midway.{IsSound}
+use Rattle.waiting_footprint_laws.proofs.Sound.{entry-sound}
 
 -- The opening kernel.
 
