@@ -1,0 +1,4 @@
+pub mod Footprint
+pub mod Valid
+pub mod Law
+pub mod Examples
