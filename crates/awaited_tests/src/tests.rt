@@ -1,2 +1,0 @@
-//! Queues at which callers wait.
-mod queues;
