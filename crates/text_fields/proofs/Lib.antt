@@ -3,3 +3,4 @@ pub mod Numerals
 pub mod Many
 pub mod Spelled
 pub mod Sets
+pub mod PlainRuns

@@ -1,30 +1,71 @@
 //! Messages' texts at the front of a text.
-ghost use Rattle.std.specs.Prelude.{◌≡◌, ◌≤◌, IfOk, IfSome, option_map};
+ghost use Rattle.std.specs.Prelude.{◌≡◌, ◌≤◌, IfOk, IfSome, IsTrue, length, option_map, take};
+ghost use Rattle.std.specs.List.{list_all};
+ghost use Rattle.kernel_model.specs.Texts.{is_plain as is_plain_byte};
 ghost use Rattle.quoted_bytes.specs.Bytes.{text_byte_at};
 ghost use Rattle.text_fields.specs.Fields.{all_at, closed_of, quoted_at, repeated_at, count_at, repetition_at, text_at};
 
 use crate::numbers::number_front;
 use pico_base::{Bytes, Memory, Sequence};
-use quoted_bytes::{strip_front, text_byte};
+use quoted_bytes::{is_plain, strip_front, text_byte};
 use std::alloc::Global;
 
 /// The longest text of `rep:N:C`.
 const MAX_REPEATED: u32 = 8192;
 
-/// The bytes of a text between quotes, up to what is none.
+/// How many bytes are tested together.
+const WINDOW: usize = 16;
+
+/// Whether each byte stands for itself between quotes. Each is tested, also behind one that doesn't, so that the loop has
+/// no early end and becomes vector code.
+fn all_plain(bytes: &[u8]) -> bool
+    ensures { result ≡ list_all is_plain_byte bytes.now }
+{
+    let mut all = true;
+    for byte in bytes {
+        all &= is_plain(*byte);
+    }
+    all
+}
+
+/// How many bytes stand for themselves in whole windows at the front.
+fn plain_windows(bytes: &[u8]) -> usize
+    ensures within { result ≤ length bytes.now }
+    ensures plain { IsTrue (list_all is_plain_byte (take result bytes.now)) }
+{
+    let mut count = 0;
+    while bytes.len() - count >= WINDOW && all_plain(&bytes[count..count + WINDOW]) {
+        count += WINDOW;
+    }
+    count
+}
+
+/// How many bytes at the front stand for themselves.
+fn plain_front(bytes: &[u8]) -> usize
+    ensures within { result ≤ length bytes.now }
+    ensures plain { IsTrue (list_all is_plain_byte (take result bytes.now)) }
+{
+    let mut count = plain_windows(bytes);
+    while count < bytes.len() && is_plain(bytes[count]) {
+        count += 1;
+    }
+    count
+}
+
+/// The bytes of a text between quotes, up to what is none. Bytes that stand for themselves are taken together.
 fn text_bytes(alloc: Global, bytes: &[u8]) -> Result<(Bytes, &[u8]), Memory>
     ensures { IfOk result (λ x. (x.0, x.1.now) ≡ all_at text_byte_at bytes.now) }
 {
-    let mut text = Sequence::new(alloc);
-    let mut rest = bytes;
-    for _ in 0..bytes.len() {
-        let Some((byte, after)) = text_byte(rest) else {
-            return Ok((text, rest));
-        };
+    let count = plain_front(bytes);
+    let mut text = Vec::from_slice(alloc, &bytes[..count])?;
+    let mut rest = &bytes[count..];
+    while let Some((byte, after)) = text_byte(rest) {
         text.push(byte)?;
-        rest = after;
+        let count = plain_front(after);
+        text.extend_from_slice(&after[..count])?;
+        rest = &after[count..];
     }
-    Ok((text, rest))
+    Ok((Sequence::from_vec(text), rest))
 }
 
 /// The text where its closing quote is next.

@@ -1,9 +1,10 @@
-use Rattle.std.proofs.Common.{◌≡◌, ◌-◌}
-use Rattle.quoted_bytes.specs.Bytes.{text_byte_at}
-use Rattle.text_fields.specs.Fields.{many, all_at}
-use Rattle.text_fields.proofs.Many.{onto}
+use Rattle.std.proofs.Common.{length}
+use Rattle.text_fields.proofs.PlainRuns.{Reads}
 use Rattle.text_fields.proofs.texts.text_bytes.Given as goal
 
--- the parts so far, and those that are left
-abbrev pub invariant-loop : goal.invariant-loop
-invariant-loop l = onto l.text (many text_byte_at (l.end - l.counter) l.rest) ≡ all_at text_byte_at l.fn.bytes
+-- the text so far, and what is left
+abbrev pub invariant-loop-byte : goal.invariant-loop-byte
+invariant-loop-byte l = Reads l.fn.bytes l.text.items l.rest
+
+abbrev pub decreases-loop-byte : goal.decreases-loop-byte
+decreases-loop-byte l = length l.rest
