@@ -14,3 +14,4 @@ pub mod Runs
 pub mod Whole
 pub mod ReplyLaws
 pub mod Tallies
+pub mod FirstByte

@@ -9,6 +9,7 @@ ghost use Rattle.trace_text.specs.Read as spec;
 use crate::entries::{entry_in, is_line};
 use crate::fault::CheckFault;
 use crate::totals::push_totals;
+use memchr::memchr;
 use pico_base::{Entries, Entry, Memory, Script};
 use std::alloc::Global;
 
@@ -22,7 +23,7 @@ const MAX_LINE: usize = 1_048_576;
 fn line_end(bytes: &[u8]) -> Option<usize>
     ensures { result ≡ position (λ b. b == 10) bytes.now }
 {
-    bytes.iter().position(|b| *b == b'\n')
+    memchr(b'\n', bytes)
 }
 
 /// The first line without its line feed, and what follows that; none where no line feed comes any more.
