@@ -5,7 +5,6 @@ use Rattle.std.specs.declared.cmp.Ordering.TheVariants.{Less, Equal, Greater}
 use Rattle.std.specs.Ordering.{nat_cmp, match_ordering}
 use Rattle.std.specs.Option.{option_map}
 use Rattle.std.specs.BTreeMap.{is_at}
-use Rattle.std.specs.Map.{set_value}
 use Rattle.std.specs.List.{AllByRecursion}
 use Rattle.std.proofs.lemmas.Option.{same_Some}
 use Rattle.pico_base.specs.declared.call.Call.{Call}
@@ -17,7 +16,6 @@ use Rattle.pico_base.specs.declared.script.Line.{Line}
 use Rattle.pico_base.specs.declared.script.Script.{Script}
 use Rattle.number_maps.specs.Maps.{Numbered, get, put}
 use Rattle.number_maps.specs.Rising.{IsRising}
-use Rattle.number_maps.proofs.Changes.{set_value-put}
 use Rattle.kernel_model.specs.Script.{Vars}
 use Rattle.kernel_model.specs.Fitting.{Place, child_vars, child_vars_at, due, is_due_again, is_killed, set_variable, value_in}
 use Rattle.waiting_model.specs.Fitting.{Progress, Places, after_entry, after_fork, after_wake}
@@ -27,7 +25,7 @@ use Rattle.node_calls.specs.Caller as callers
 use Rattle.node_calls.specs.Caller.{BlockCaller}
 use Rattle.node_calls.proofs.VariableLemmas.{rising-put}
 use Rattle.trace_check.specs.declared.cursor.Cursor.{Cursor}
-use Rattle.trace_check.specs.Cursors.{IsIdle, IsSteady, AreSteady, MayMake, MayMakeAt, ended_if, place_of, progress_of, beginning, parked_with, answered, answered_with, after_call, after_made, after_woken, woken_at, places_of, forked_by, with_forked, moved_at, moved_on}
+use Rattle.trace_check.specs.Cursors.{IsIdle, IsSteady, AreSteady, MayMake, MayMakeAt, ended_if, place_of, progress_of, beginning, parked_with, answered, answered_with, after_call, after_made, after_woken, woken_at, places_of, forked_at, forked_by, may_fork, with_forked, moved_at, moved_on}
 use Rattle.trace_check.specs.FirstFault.{places_with}
 use Rattle.trace_check.proofs.PlaceLaws.{answers, idle-answered, makes, progress-at, progress-put}
 
@@ -239,16 +237,20 @@ after-entry script cursors pid call outcome c there may all =
 
 -- What is written back at a process's number.
 
--- that process after its entry
-pub move-lands : (script : Script) (cs es : Numbered Cursor) (pid : ℕ) (call : Call) (own : Option Reply) (v w : Cursor)
-    → IsRising cs → get cs pid ≡ Some v → w ≡ after_call script v call own
-    → es ≡ set_value (is_at (nat_cmp pid)) cs w → es ≡ moved_at script cs pid call own (get cs pid)
-move-lands script cs es pid call own v w rising there is written =
-    rw there (written ∙ set_value-put cs pid w v rising there ∙ ap (put cs pid) is)
+-- that process after its entry, by a number that is its own
+pub move-lands : (script : Script) (cs : Numbered Cursor) (n pid : ℕ) (call : Call) (own : Option Reply) (v w : Cursor)
+    → n ≡ pid → get cs n ≡ Some v → w ≡ after_call script v call own
+    → put cs n w ≡ moved_at script cs pid call own (get cs pid)
+move-lands script cs n pid call own v w same there is = rw (← same, there) (ap (put cs n) is)
 
 -- that process once it is woken
-pub wake-lands : (script : Script) (cs es : Numbered Cursor) (pid : ℕ) (reply : Reply) (v w : Cursor)
-    → IsRising cs → get cs pid ≡ Some v → w ≡ answered script v reply
-    → es ≡ set_value (is_at (nat_cmp pid)) cs w → es ≡ after_woken script cs (pid, reply)
-wake-lands script cs es pid reply v w rising there is written =
-    rw there (written ∙ set_value-put cs pid w v rising there ∙ ap (put cs pid) is)
+pub wake-lands : (script : Script) (cs : Numbered Cursor) (n pid : ℕ) (reply : Reply) (v w : Cursor) → n ≡ pid
+    → get cs n ≡ Some v → w ≡ answered script v reply → put cs n w ≡ after_woken script cs (pid, reply)
+wake-lands script cs n pid reply v w same there is = rw (← same, there) (ap (put cs n) is)
+
+-- only a fork makes a process
+pub no-child : (script : Script) (o : Option Cursor) (call : Call) (own : Option Reply) → may_fork call ≡ false
+    → forked_at script o call own ≡ None
+no-child script None call own other = refl
+no-child script (Some c) (calls.Fork block) own other = absurd cc
+no-child script (Some c) call own other = refl

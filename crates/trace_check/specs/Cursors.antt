@@ -107,6 +107,11 @@ MayMake script c call = IsIdle c × IsTrue (is_some (due (place_of script c)))
 abbrev pub MayMakeAt : Script → Numbered Cursor → ℕ → Call → Type 0
 MayMakeAt script cursors pid call = IfSome (get cursors pid) (λ c. MayMake script c call)
 
+-- a call that may make a process
+abbrev pub may_fork : Call → Bool
+may_fork (Fork block) = true
+may_fork call = false
+
 -- the process that a call of this one forks with this reply, and its number
 abbrev pub forked_by : Script → Cursor → Call → Option Reply → Option (ℕ × Cursor)
 forked_by script parent (Fork block) (Some (Num child)) =

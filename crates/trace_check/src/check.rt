@@ -41,7 +41,7 @@ fn judge(alloc: Global, script: &Script, bytes: &[u8], first_line: u32) -> Resul
         let Some(entry) = entry_in(alloc, script, text, &mut scratch)? else {
             return Err(CheckFault::NotATrace { line });
         };
-        match judge.entry(script, line, entry) {
+        match judge.entry(script, line, &entry) {
             Ok(()) => (),
             Err(fault) => return Err(fault),
         }

@@ -12,11 +12,11 @@ ghost use Rattle.trace_check.specs.Standings.{doom_in};
 use crate::cursor::Cursor;
 use crate::same::{Texts, is_same_call};
 use mono_kernel::{Kernel, Standing};
+use number_table::Table;
 use pico_base::{Call, Memory, Name, Pid, Script, Sig};
-use std::collections::BTreeMap;
 
-/// Process 1 and the forked processes, by number.
-pub(crate) type Cursors = BTreeMap<Pid, Cursor>;
+/// Process 1 and the forked processes, by number. Each block is forked by one line at most, so there are 32 at most.
+pub(crate) type Cursors = Table<Cursor>;
 
 /// The signal that ends a process of this standing which isn't parked and may have no further entry before its end.
 fn doom_in(standing: Standing) -> Option<Sig>
@@ -88,7 +88,7 @@ pub(crate) fn due_in(
     requires { IsSoundScript script.now }
     ensures { IfOk result (λ due. due ≡ due_in script.now cursors.now.entries pid doom) }
 {
-    match cursors.get(&pid) {
+    match cursors.get(pid.0) {
         Some(cursor) => due_of(script, pid, doom, cursor),
         None => Ok(None),
     }
@@ -189,7 +189,7 @@ pub(crate) fn may_come(
     requires { IsSoundScript script.now }
     ensures { IfOk result (λ may. may ≡ may_come_in script.now cursors.now.entries pid doom found.now) }
 {
-    match cursors.get(&pid) {
+    match cursors.get(pid.0) {
         Some(cursor) => may_follow(script, pid, doom, cursor, found, texts),
         None => Ok(false),
     }
@@ -200,9 +200,10 @@ pub(crate) fn first_going(script: &Script, cursors: &Cursors) -> Option<Pid>
     requires { IsSoundScript script.now }
     ensures { result ≡ first_going_of script.now cursors.now.entries }
 {
-    for (pid, cursor) in cursors {
+    let entries = cursors.as_slice();
+    for (pid, cursor) in entries {
         if goes_on(script, cursor) {
-            return Some(*pid);
+            return Some(Pid(*pid));
         }
     }
     None

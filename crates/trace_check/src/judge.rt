@@ -10,7 +10,7 @@ ghost use Rattle.waiting_model.specs.Kernel.{opening};
 ghost use Rattle.waiting_model.specs.Transition.{transition};
 ghost use Rattle.trace_text.specs.Reading.{is_line as is_line_of};
 ghost use Rattle.trace_text.specs.Totals.{tally_of};
-ghost use Rattle.trace_check.specs.Cursors.{AreSteady, IsSteady, MayMake, MayMakeAt, after_made, after_woken, beginning, forked_at, forked_by, moved_at, moved_on, place_of, places_of};
+ghost use Rattle.trace_check.specs.Cursors.{AreSteady, IsSteady, MayMake, MayMakeAt, after_made, after_woken, beginning, forked_at, forked_by, may_fork, moved_at, moved_on, place_of, places_of};
 ghost use Rattle.trace_check.specs.FirstFault.{Gives, first_going, judge_entry, judge_made, judge_outcome, judge_totals};
 ghost use Rattle.trace_check.specs.Judging.{Carried, Yields, so_far_of};
 
@@ -19,9 +19,9 @@ use crate::cursor::Cursor;
 use crate::due::{Cursors, due_in, first_going, last_doom, may_come};
 use crate::same::{Texts, is_same_outcome};
 use mono_kernel::{CallFault, Kernel};
+use number_table::Table;
 use pico_base::{Call, Entry, Memory, Node, Outcome, Pid, Reply, Script, Vars};
 use std::alloc::Global;
-use std::collections::BTreeMap;
 use std::slice;
 use trace_text::{CheckFault, Tally, begins_like_totals, is_line, push_tally};
 
@@ -61,33 +61,33 @@ fn outcome_of(
     }
 }
 
-/// The kernel carries the call out, and comes to the same as the line. The line's outcome comes back.
+/// The kernel carries the call out, and comes to the same as the line.
 fn carry_out(
+    alloc: Global,
     kernel: &mut Kernel,
     line: u32,
     pid: Pid,
     call: &Call,
-    outcome: Outcome,
+    outcome: &Outcome,
     texts: &mut Texts,
-) -> Result<Outcome, CheckFault>
-    ensures yields { Yields result kernel.new
-        (judge_outcome line outcome (transition kernel.old pid call.now (number_in outcome.own))) }
-    ensures same { IfOk result (λ back. back ≡ outcome) }
+) -> Result<(), CheckFault>
+    ensures { Yields result kernel.new
+        (judge_outcome line outcome.now (transition kernel.old pid call.now (number_in outcome.now.own))) }
 {
     let Some(its) = outcome_of(kernel, pid, call, number_in(&outcome.own))? else {
         return Err(CheckFault::Illegal {
             line,
             kernel: None,
-            trace: outcome,
+            trace: outcome.try_copy(alloc)?,
         });
     };
-    if is_same_outcome(&its, &outcome, texts)? {
-        Ok(outcome)
+    if is_same_outcome(&its, outcome, texts)? {
+        Ok(())
     } else {
         Err(CheckFault::Illegal {
             line,
             kernel: Some(its),
-            trace: outcome,
+            trace: outcome.try_copy(alloc)?,
         })
     }
 }
@@ -130,7 +130,7 @@ fn forked_at(
     ensures { IfOk result
         (λ child. child ≡ forked_at script.now (get cursors.now.entries pid) call.now own.now) }
 {
-    match cursors.get(&pid) {
+    match cursors.get(pid.0) {
         Some(parent) => forked_child(alloc, script, parent, call, own),
         None => Ok(None),
     }
@@ -150,10 +150,42 @@ fn move_at(
     ensures { OnOk result (cursors.new.entries
         ≡ moved_at script.now cursors.old.entries pid call.now own.now (get cursors.old.entries pid)) }
 {
-    match cursors.get_mut(&pid) {
-        Some(cursor) => cursor.goes_on(script, call, own),
+    match cursors.find(pid.0) {
+        Some(place) => cursors.value_mut(pid.0, place).goes_on(script, call, own),
         None => Ok(()),
     }
+}
+
+/// The processes after an entry that may fork one, but for those that it wakes. It stands apart, since a new process is
+/// long and few calls make one.
+#[inline(never)]
+fn make_with_child(
+    alloc: Global,
+    script: &Script,
+    cursors: &mut Cursors,
+    pid: Pid,
+    call: &Call,
+    own: &Option<Reply>,
+) -> Result<(), Memory>
+    requires sound { IsSoundScript script.now }
+    requires steady { AreSteady script.now cursors.old.entries }
+    requires may { MayMakeAt script.now cursors.old.entries pid call.now }
+    ensures { OnOk result (cursors.new.entries
+        ≡ after_made script.now cursors.old.entries pid call.now own.now (get cursors.old.entries pid)) }
+{
+    let forked = forked_at(alloc, script, cursors, pid, call, own)?;
+    move_at(script, cursors, pid, call, own)?;
+    if let Some((child, cursor)) = forked {
+        cursors.insert(child.0, cursor)?;
+    }
+    Ok(())
+}
+
+/// Whether the call may make a process.
+fn may_fork(call: &Call) -> bool
+    ensures { result ≡ may_fork call.now }
+{
+    matches!(call, Call::Fork { .. })
 }
 
 /// The processes after an entry, but for those that it wakes.
@@ -171,12 +203,11 @@ fn make(
     ensures { OnOk result (cursors.new.entries
         ≡ after_made script.now cursors.old.entries pid call.now own.now (get cursors.old.entries pid)) }
 {
-    let forked = forked_at(alloc, script, cursors, pid, call, own)?;
-    move_at(script, cursors, pid, call, own)?;
-    if let Some((child, cursor)) = forked {
-        cursors.insert(child, cursor)?;
+    if may_fork(call) {
+        make_with_child(alloc, script, cursors, pid, call, own)
+    } else {
+        move_at(script, cursors, pid, call, own)
     }
-    Ok(())
 }
 
 /// One who is woken goes on with its reply.
@@ -186,8 +217,8 @@ fn wake(script: &Script, cursors: &mut Cursors, pid: Pid, reply: &Reply) -> Resu
         ≡ after_woken script.now cursors.old.entries (pid, reply.now)) }
     ensures steady { OnOk result (AreSteady script.now cursors.new.entries) }
 {
-    match cursors.get_mut(&pid) {
-        Some(cursor) => cursor.answers(script, reply),
+    match cursors.find(pid.0) {
+        Some(place) => cursors.value_mut(pid.0, place).answers(script, reply),
         None => Ok(()),
     }
 }
@@ -232,8 +263,8 @@ impl Judge {
         ensures cursors { IfOk result (λ j. j.cursors.entries ≡ (1, beginning 1 []) ∷ []) }
         ensures tally { IfOk result (λ j. j.tally ≡ tally_of []) }
     {
-        let mut cursors = BTreeMap::new(alloc);
-        cursors.insert(Pid(1), Cursor::new(alloc, Node(1), Vars::new(alloc)))?;
+        let mut cursors = Table::new(alloc);
+        cursors.insert(1, Cursor::new(alloc, Node(1), Vars::new(alloc)))?;
         Ok(Judge {
             alloc,
             kernel: Kernel::new(alloc)?,
@@ -262,38 +293,40 @@ impl Judge {
         script: &Script,
         line: u32,
         pid: Pid,
-        call: Call,
-        outcome: Outcome,
+        call: &Call,
+        outcome: &Outcome,
     ) -> Result<(), CheckFault>
         requires sound { IsSoundScript script.now }
         requires steady { AreSteady script.now self.old.cursors.entries }
         ensures judged { Yields result (so_far_of script.now self.new.kernel self.new.cursors.entries)
-            (judge_made script.now line (so_far_of script.now self.old.kernel self.old.cursors.entries) pid call
-            outcome) }
+            (judge_made script.now line (so_far_of script.now self.old.kernel self.old.cursors.entries) pid call.now
+            outcome.now) }
         ensures steady { OnOk result (AreSteady script.now self.new.cursors.entries) }
         ensures tally { self.new.tally ≡ self.old.tally }
     {
         let doom = last_doom(&self.kernel, pid);
-        if !may_come(script, &self.cursors, pid, doom, &call, &mut self.texts)? {
+        if !may_come(script, &self.cursors, pid, doom, call, &mut self.texts)? {
             let due = due_in(script, &self.cursors, pid, doom)?;
+            let found = call.try_copy(self.alloc)?;
             return Err(CheckFault::NotTheScript {
                 line,
                 due,
-                found: Some(call),
+                found: Some(found),
             });
         }
-        let outcome = match carry_out(
+        match carry_out(
+            self.alloc,
             &mut self.kernel,
             line,
             pid,
-            &call,
+            call,
             outcome,
             &mut self.texts,
         ) {
-            Ok(outcome) => outcome,
+            Ok(()) => (),
             Err(fault) => return Err(fault),
-        };
-        move_on(self.alloc, script, &mut self.cursors, pid, &call, &outcome)?;
+        }
+        move_on(self.alloc, script, &mut self.cursors, pid, call, outcome)?;
         Ok(())
     }
 
@@ -302,24 +335,18 @@ impl Judge {
         &mut self,
         script: &Script,
         line: u32,
-        entry: Entry,
+        entry: &Entry,
     ) -> Result<(), CheckFault>
         requires sound { IsSoundScript script.now }
         requires steady { AreSteady script.now self.old.cursors.entries }
         ensures judged { Yields result (so_far_of script.now self.new.kernel self.new.cursors.entries)
-            (judge_entry script.now line (so_far_of script.now self.old.kernel self.old.cursors.entries) entry) }
+            (judge_entry script.now line (so_far_of script.now self.old.kernel self.old.cursors.entries) entry.now) }
         ensures steady { OnOk result (AreSteady script.now self.new.cursors.entries) }
         ensures tally { (done : List EntryValue) → self.old.tally ≡ tally_of done
-            → OnOk result (self.new.tally ≡ tally_of (done ++ entry ∷ [])) }
+            → OnOk result (self.new.tally ≡ tally_of (done ++ entry.now ∷ [])) }
     {
-        self.tally.add(slice::from_ref(&entry))?;
-        let Entry {
-            pid,
-            call,
-            outcome,
-            by: _,
-        } = entry;
-        self.call(script, line, pid, call, outcome)
+        self.tally.add(slice::from_ref(entry))?;
+        self.call(script, line, entry.pid, &entry.call, &entry.outcome)
     }
 
     /// Judges the totals of so many entries, behind which there is something more or not.

@@ -22,8 +22,8 @@ impl Texts {
     }
 }
 
-/// Whether both are the same call on a queue. This is asked before texts are printed, since a message's may be long.
-fn is_equal_call(call: &Call, other: &Call) -> bool
+/// Whether both send the same message to the same queue.
+fn is_equal_send(call: &Call, other: &Call) -> bool
     ensures { IsTrue result → call.now ≡ other.now }
 {
     match (call, other) {
@@ -46,6 +46,50 @@ fn is_equal_call(call: &Call, other: &Call) -> bool
                 && *nowait == *its_nowait
                 && text.as_slice() == its_text.as_slice()
         }
+        _ => false,
+    }
+}
+
+/// Whether both receive from the same queue in the same way.
+fn is_equal_receive(call: &Call, other: &Call) -> bool
+    ensures { IsTrue result → call.now ≡ other.now }
+{
+    match (call, other) {
+        (
+            Call::MsgRcv {
+                id,
+                class,
+                size,
+                noerror,
+                nowait,
+            },
+            Call::MsgRcv {
+                id: its_id,
+                class: its_class,
+                size: its_size,
+                noerror: its_noerror,
+                nowait: its_nowait,
+            },
+        ) => {
+            *id == *its_id
+                && *class == *its_class
+                && *size == *its_size
+                && *noerror == *its_noerror
+                && *nowait == *its_nowait
+        }
+        _ => false,
+    }
+}
+
+/// Whether both are the same call, of the kinds that come most. This is asked before texts are printed, since a
+/// message's may be long.
+fn is_equal_call(call: &Call, other: &Call) -> bool
+    ensures { IsTrue result → call.now ≡ other.now }
+{
+    match (call, other) {
+        (Call::GetPid, Call::GetPid) => true,
+        (Call::MsgSnd { .. }, _) => is_equal_send(call, other),
+        (Call::MsgRcv { .. }, _) => is_equal_receive(call, other),
         _ => false,
     }
 }
