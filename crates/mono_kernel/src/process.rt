@@ -282,6 +282,7 @@ impl LiveProcess {
     }
 
     /// Makes a change.
+    #[inline(always)]
     fn change(&mut self, change: Change)
         ensures { self.new ≡ after_change change self.old }
     {
@@ -377,6 +378,7 @@ impl ProcessCell {
     }
 
     /// Makes a change, if the process lives.
+    #[inline(always)]
     pub(crate) fn change(&mut self, change: Change)
         ensures { self.new ≡ where_living (after_change change) self.old }
     {

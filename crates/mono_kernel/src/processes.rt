@@ -15,16 +15,17 @@ ghost use Rattle.mono_kernel.specs.Table.{IfLiving, lists_there, ignores_there, 
 
 use crate::family::Waited;
 use crate::process::{Change, LiveProcess, ProcessCell};
+use number_table::Table;
 use pico_base::{EndedChild, Ending, Errno, Memory, Pid, Reply};
 use std::alloc::Global;
 use std::collections::BTreeMap;
 use std::marker::Model;
 
-/// The table of processes. The parent of each child is kept beside it, so that an end doesn't go
-/// through the table.
+/// The table of processes, each found by one look where numbers were given out in order. The parent
+/// of each child is kept beside it, so that an end doesn't go through the table.
 #[derive(Drop)]
 pub(crate) struct Processes {
-    cells: BTreeMap<Pid, ProcessCell>,
+    cells: Table<ProcessCell>,
     parents: BTreeMap<Pid, Pid>,
 }
 
@@ -41,26 +42,23 @@ impl Model for Processes {
 }
 
 /// A change of the process that lives at a number.
-fn change_at(cells: &mut BTreeMap<Pid, ProcessCell>, pid: Pid, change: Change)
+#[inline(always)]
+fn change_at(cells: &mut Table<ProcessCell>, pid: Pid, change: Change)
     requires { IsSome (living_in cells.old.entries pid) }
     ensures changed { IfLiving cells.old.entries pid
         (λ a. cells.new.entries ≡ put cells.old.entries pid (Living (after_change change a))) }
     ensures same_numbers { keys_of cells.new.entries ≡ keys_of cells.old.entries }
     ensures rising { IsRising cells.new.entries }
 {
-    if let Some(cell) = cells.get_mut(&pid) {
-        cell.change(change);
+    cells.rise();
+    if let Some(place) = cells.find(pid.0) {
+        cells.value_mut(pid.0, place).change(change);
     }
 }
 
 /// A child of the process that lives at a number has ended. Gives what a waitpid finds in which that
 /// waited.
-fn end_child_at(
-    cells: &mut BTreeMap<Pid, ProcessCell>,
-    pid: Pid,
-    child: Pid,
-    ending: Ending,
-) -> Waited
+fn end_child_at(cells: &mut Table<ProcessCell>, pid: Pid, child: Pid, ending: Ending) -> Waited
     requires lives { IsSome (living_in cells.old.entries pid) }
     requires listed { IfLiving cells.old.entries pid (λ a. lists a.row.family child ≡ true) }
     ensures found { IfLiving cells.old.entries pid (λ a. waited_of result ≡ found_after_end a child ending) }
@@ -69,27 +67,26 @@ fn end_child_at(
     ensures same_numbers { keys_of cells.new.entries ≡ keys_of cells.old.entries }
     ensures rising { IsRising cells.new.entries }
 {
-    match cells.get_mut(&pid) {
-        Some(cell) => cell.end_child(child, ending),
+    cells.rise();
+    match cells.find(pid.0) {
+        Some(place) => cells.value_mut(pid.0, place).end_child(child, ending),
         None => Waited::NotYet,
     }
 }
 
 /// A process that is there lives no longer.
-fn settle_at(cells: &mut BTreeMap<Pid, ProcessCell>, pid: Pid, cell: ProcessCell)
+fn settle_at(cells: &mut Table<ProcessCell>, pid: Pid, cell: ProcessCell)
     requires { IsSome (get cells.old.entries pid) }
     ensures settled { cells.new.entries ≡ put cells.old.entries pid cell }
     ensures same_numbers { keys_of cells.new.entries ≡ keys_of cells.old.entries }
     ensures rising { IsRising cells.new.entries }
 {
-    match cells.insert(pid, cell) {
-        Ok(_) => (),
-        Err(_) => unreachable!(),
-    }
+    cells.rise();
+    *cells.entry_mut(pid.0) = cell;
 }
 
 /// A new child of the process that lives at a number. A refusal changes nothing.
-fn add_child_at(cells: &mut BTreeMap<Pid, ProcessCell>, pid: Pid, child: Pid) -> Result<(), Memory>
+fn add_child_at(cells: &mut Table<ProcessCell>, pid: Pid, child: Pid) -> Result<(), Memory>
     requires { IsSome (living_in cells.old.entries pid) }
     ensures ok { OnOk result
         (IfLiving cells.old.entries pid
@@ -98,15 +95,16 @@ fn add_child_at(cells: &mut BTreeMap<Pid, ProcessCell>, pid: Pid, child: Pid) ->
     ensures same_numbers { keys_of cells.new.entries ≡ keys_of cells.old.entries }
     ensures rising { IsRising cells.new.entries }
 {
-    match cells.get_mut(&pid) {
-        Some(cell) => cell.add_child(child),
+    cells.rise();
+    match cells.find(pid.0) {
+        Some(place) => cells.value_mut(pid.0, place).add_child(child),
         None => Ok(()),
     }
 }
 
 /// A new process, which that of another number lists. A refusal changes nothing.
 fn fork_at(
-    cells: &mut BTreeMap<Pid, ProcessCell>,
+    cells: &mut Table<ProcessCell>,
     pid: Pid,
     child: Pid,
     cell: ProcessCell,
@@ -120,9 +118,10 @@ fn fork_at(
     ensures err { OnErr result (cells.new.entries ≡ cells.old.entries) }
     ensures rising { IsRising cells.new.entries }
 {
-    cells.insert(child, cell)?;
+    cells.rise();
+    cells.insert(child.0, cell)?;
     if let Err(memory) = add_child_at(cells, pid, child) {
-        cells.remove(&child);
+        let _ = cells.take(child.0);
         return Err(memory);
     }
     Ok(())
@@ -176,8 +175,9 @@ impl Processes {
     pub(crate) fn new(alloc: Global) -> Result<Processes, Memory>
         ensures { IfOk result (λ ps. ps ≡ (1, Living new_alive) ∷ []) }
     {
-        let mut cells = BTreeMap::new(alloc);
-        cells.insert(Pid(1), ProcessCell::living(LiveProcess::new(alloc)))?;
+        let mut cells = Table::new(alloc);
+        cells.insert(1, ProcessCell::living(LiveProcess::new(alloc)))?;
+        cells.rise();
         Ok(Processes {
             cells,
             parents: BTreeMap::new(alloc),
@@ -188,27 +188,28 @@ impl Processes {
     pub(crate) fn is_there(&self, pid: Pid) -> bool
         ensures { result ≡ is_some (get self.now pid) }
     {
-        self.cells.contains_key(&pid)
+        self.cells.has(pid.0)
     }
 
     /// The process's place.
     pub(crate) fn cell(&self, pid: Pid) -> Option<&ProcessCell>
         ensures { option_copied result ≡ get self.now pid }
     {
-        self.cells.get(&pid)
+        self.cells.get(pid.0)
     }
 
     /// The living process of a number.
     pub(crate) fn alive(&self, pid: Pid) -> Option<&LiveProcess>
         ensures { option_copied result ≡ living_in self.now pid }
     {
-        match self.cells.get(&pid) {
+        match self.cells.get(pid.0) {
             Some(cell) => cell.alive(),
             None => None,
         }
     }
 
     /// Makes a change of a living process.
+    #[inline(always)]
     pub(crate) fn change(&mut self, pid: Pid, change: Change)
         requires { IsSome (living_in self.old pid) }
         ensures changed { IfLiving self.old pid (λ a. self.new ≡ put self.old pid (Living (after_change change a))) }
@@ -218,6 +219,7 @@ impl Processes {
     }
 
     /// Makes a change, if the process lives.
+    #[inline(always)]
     pub(crate) fn change_there(&mut self, pid: Pid, change: Change)
         ensures changed { self.new ≡ change_living self.old pid (λ a. after_change change a) }
         ensures same_numbers { keys_of self.new ≡ keys_of self.old }
