@@ -15,7 +15,6 @@ use Rattle.pico_base.specs.declared.reply.Reply.TheVariants as replies
 use Rattle.pico_base.specs.declared.script.Line.{Line}
 use Rattle.pico_base.specs.declared.script.Script.{Script}
 use Rattle.number_maps.specs.Maps.{Numbered, get, put}
-use Rattle.number_maps.specs.Rising.{IsRising}
 use Rattle.kernel_model.specs.Script.{Vars}
 use Rattle.kernel_model.specs.Fitting.{Place, child_vars, child_vars_at, due, is_due_again, is_killed, set_variable, value_in}
 use Rattle.waiting_model.specs.Fitting.{Progress, Places, after_entry, after_fork, after_wake}
