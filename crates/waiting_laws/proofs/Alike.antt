@@ -8,7 +8,7 @@ use Rattle.kernel_model.specs.Kernel as plain_kernels
 use Rattle.waiting_model.specs.Marks.{Alive, plain_alive}
 use Rattle.waiting_model.specs.Kernel.{Kernel, Process, Living, with_alive}
 use Rattle.waiting_model.specs.Effect.{Effect, replying}
-use Rattle.waiting_laws.specs.Plain.{each, plain_process, plain_kernel, AllValues, IsUnparked, NobodyWaits}
+use Rattle.waiting_model.specs.Plain.{each, plain_process, plain_kernel, AllValues, IsUnparked, NobodyWaits}
 use Rattle.waiting_laws.proofs.Maps.{put-each, all-put}
 
 pub record Alike (e : Effect) (p : plain.Effect) : Type 0 where

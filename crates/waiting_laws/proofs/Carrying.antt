@@ -8,10 +8,10 @@ use Rattle.pico_base.specs.declared.call.Call.TheVariants as calls
 use Rattle.pico_base.specs.declared.call.SemStep.{SemStep}
 use Rattle.kernel_model.specs.SemaphoreSet.{SemaphoreSet, read_semaphore}
 use Rattle.waiting_model.specs.declared.callers.Waiting.{Waiting}
-use Rattle.waiting_model.specs.Waiters.{Attempt, Awaited, Carried, IsSettled, Ready, Settled, Try, at_rest, awaited, carry_out, carry_out_by, first_ready, parked_behind, ready_behind, ready_or, replied, settle, settle_by, settle_on, wake, woken_first}
+use Rattle.waiting_model.specs.Waiters.{Attempt, Awaited, Carried, IsSettled, Ready, Settled, Try, at_rest, awaited, carry_out, carry_out_by, first_ready, parked_behind, ready_behind, ready_or, replied, settle, settle_by, settle_on, wake, woken_first, erased, erased_waiter, erased_wake}
 use Rattle.waiting_model.specs.Queue.{carry_out_on_queue, try_queue}
 use Rattle.waiting_model.specs.SemaphoreSet.{carry_out_on_set, carry_out_on_set_by, count_reply, counted, is_negative_on, is_zero_on, steps_of, stop_of, try_set}
-use Rattle.waiting_laws.specs.Carried.{erased, erased_waiter, erased_wake, SameErased, NodesDontMatter, ParkingAddsOne, LooksWakeNobody}
+use Rattle.waiting_laws.specs.Carried.{SameErased, NodesDontMatter, ParkingAddsOne, LooksWakeNobody}
 use Rattle.waiting_laws.proofs.Options.{not-none}
 
 -- Nodes and tickets.

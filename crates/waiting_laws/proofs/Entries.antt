@@ -46,7 +46,7 @@ use Rattle.waiting_model.specs.QueueCalls.{get_queue, get_queue_at, new_queue, q
 use Rattle.waiting_model.specs.SetCalls.{get_set, get_set_at, new_set_of, remove_set, set_effect, set_size, with_set}
 use Rattle.waiting_model.specs.Transition.{Successor, effect, finish_call, may_make, may_withdraw, outcome_of, queue_without, set_without, successor, transition, transition_by, withdraw, withdrawn}
 use Rattle.waiting_model.specs.History.{Replays}
-use Rattle.waiting_laws.specs.Plain.{AllValues}
+use Rattle.waiting_model.specs.Plain.{AllValues}
 use Rattle.waiting_laws.specs.Parked.{wait_of, wait_in, WaitOnce, mark_at, mark_of, mark_in, ReachableMarksAreWaits, ReachableWaitsFindNothing}
 use Rattle.waiting_laws.proofs.Maps.{all-get, all-put, all-filter}
 use Rattle.waiting_laws.proofs.Waits.{is_woken, Settles, Carries, carries, none-woken, left_by, wait-left, once-left, all-woken, all-woken-once}

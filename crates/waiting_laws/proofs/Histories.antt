@@ -23,7 +23,7 @@ use Rattle.waiting_model.specs.Waiters.{Awaited}
 use Rattle.waiting_model.specs.Kernel.{Kernel, opening}
 use Rattle.waiting_model.specs.Transition.{Successor, successor, transition}
 use Rattle.waiting_model.specs.History.{Replays}
-use Rattle.waiting_laws.specs.Plain.{plain_kernel, NobodyWaits}
+use Rattle.waiting_model.specs.Plain.{plain_kernel, NobodyWaits}
 use Rattle.waiting_laws.specs.Before.{LeadsAlike, LeadAlike, NeverMayPark, HistoriesAreAsBefore}
 use Rattle.waiting_laws.proofs.Transitions.{calls-as-before}
 

@@ -11,7 +11,7 @@ use Rattle.std.proofs.lemmas.Map.Keys.{sorted_tail}
 use Rattle.number_maps.specs.Maps.{Numbered, get, put, without}
 use Rattle.number_maps.specs.Rising.{IsRising}
 use Rattle.number_maps.proofs.Changes.{less-none}
-use Rattle.waiting_laws.specs.Plain.{each, AllValues}
+use Rattle.waiting_model.specs.Plain.{each, AllValues}
 
 module _ {A B : Type 0} where
   -- what a map has at a number goes along

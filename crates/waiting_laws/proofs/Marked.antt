@@ -22,7 +22,7 @@ use Rattle.waiting_model.specs.Waiters.{Awaited, waiter}
 use Rattle.waiting_model.specs.Marks.{Alive, after_reply, spent}
 use Rattle.waiting_model.specs.Kernel.{Kernel, Process, Living, alive_in, change_living, living_at, living_in, with_alive, wake_all, wake_one}
 use Rattle.waiting_model.specs.Transition.{after_call, allowance_after, finish_call}
-use Rattle.waiting_laws.specs.Plain.{AllValues}
+use Rattle.waiting_model.specs.Plain.{AllValues}
 use Rattle.waiting_laws.specs.Parked.{wait_of, wait_in, WaitOnce, mark_of, mark_in, MarksAreWaits}
 use Rattle.waiting_laws.proofs.Waits.{is_woken, Settles}
 use Rattle.waiting_laws.proofs.People.{WaitsAlike, alike-from, alike-on, People, Moves, moves-self, living-put-other, put-marked, people-changed, there-changed, living-changed, mark-replied, FindsNothing, replied-patient, waits_for_children, children_of}

@@ -27,7 +27,7 @@ use Rattle.waiting_model.specs.Kernel.{Kernel}
 use Rattle.waiting_model.specs.Effect.{on_named}
 use Rattle.waiting_model.specs.QueueCalls.{new_queue, get_queue_at, get_queue, queue_effect, on_queue, remove_queue}
 use Rattle.waiting_model.specs.SetCalls.{new_set_of, set_size, find_set, get_set_at, get_set, set_effect, on_set, remove_set}
-use Rattle.waiting_laws.specs.Plain.{each, plain_kernel, NobodyWaits}
+use Rattle.waiting_model.specs.Plain.{each, plain_kernel, NobodyWaits}
 use Rattle.waiting_laws.proofs.Maps.{get-each, put-each, without-each, rising-each, put-same, all-get, all-put, all-filter}
 use Rattle.waiting_laws.proofs.Alike.{Alike, BothAlike, alike-test, alike-choice, both-choice, alike-replying, plain_effect}
 

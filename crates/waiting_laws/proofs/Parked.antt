@@ -12,7 +12,7 @@ use Rattle.waiting_model.specs.declared.callers.Wake.{Wake}
 use Rattle.waiting_model.specs.Calls.{waits_at, is_same_name}
 use Rattle.waiting_model.specs.Marks.{after_reply}
 use Rattle.waiting_model.specs.Kernel.{Kernel, Process, change_living, wake_one}
-use Rattle.waiting_laws.specs.Plain.{AllValues}
+use Rattle.waiting_model.specs.Plain.{AllValues}
 use Rattle.waiting_laws.specs.Parked.{wait_of, wait_in, WaitOnce, mark_at, mark_in, MarksAreWaits}
 use Rattle.waiting_laws.proofs.Waits.{is_woken, Settles}
 use Rattle.waiting_laws.proofs.People.{WaitsAlike, mark-replied}

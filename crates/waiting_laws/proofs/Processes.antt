@@ -21,7 +21,7 @@ use Rattle.waiting_model.specs.Kernel.{Kernel, Process, Living, Ended, Gone, Par
 use Rattle.waiting_model.specs.Effect.{reply_with}
 use Rattle.waiting_model.specs.ProcessCalls.{new_child, parent_after_fork, fork_effect, bury, bury_all, process_after_end, found_after_end, found_for, bury_found, after_waiting, raise_chld, parent_after_end, end_under, wakes_of_parent, wakes_under, end_process, parent_after_wait, processes_after_wait, reap_child, with_signals, action_effect, signal_living, kill_at, kill}
 use Rattle.waiting_model.specs.Marks.{awaited_children}
-use Rattle.waiting_laws.specs.Plain.{each, plain_process, plain_parent, plain_kernel, AllValues, IsUnparked, NobodyWaits}
+use Rattle.waiting_model.specs.Plain.{each, plain_process, plain_parent, plain_kernel, AllValues, IsUnparked, NobodyWaits}
 use Rattle.waiting_laws.proofs.Maps.{get-each, put-each, all-get, all-put}
 use Rattle.waiting_laws.proofs.Alike.{Alike, BothAlike, alike-test, alike-replying, alike-processes, alike-with_alive, plain_effect, put-twice}
 

@@ -34,7 +34,7 @@ use Rattle.waiting_model.specs.Kernel.{Kernel, Process, Living, Ended, Gone, ali
 use Rattle.waiting_model.specs.Effect.{Effect, woken_pair, outcome_of_effect}
 use Rattle.waiting_model.specs.SetCalls.{on_set}
 use Rattle.waiting_model.specs.Transition.{Successor, successor, effect, may_make, may_withdraw, allowance_after, marks_after, finish_call, outcome_of, withdraw, step_by, transition, transition_by}
-use Rattle.waiting_laws.specs.Plain.{each, plain_process, plain_kernel, AllValues, IsUnparked, NobodyWaits}
+use Rattle.waiting_model.specs.Plain.{each, plain_process, plain_kernel, AllValues, IsUnparked, NobodyWaits}
 use Rattle.waiting_laws.specs.Before.{LeadsAlike, LeadAlike, CallsAreAsBefore}
 use Rattle.waiting_laws.proofs.Maps.{get-each, all-get}
 use Rattle.waiting_laws.proofs.Alike.{Alike, BothAlike, alike-replying, alike-with_alive, quiet-processes}

@@ -9,7 +9,7 @@ use Rattle.waiting_model.specs.Calls.{may_park}
 use Rattle.waiting_model.specs.Kernel.{Kernel}
 use Rattle.waiting_model.specs.Transition.{Successor, transition}
 use Rattle.waiting_model.specs.History.{IsLegal}
-use Rattle.waiting_laws.specs.Plain.{plain_kernel, NobodyWaits}
+use Rattle.waiting_model.specs.Plain.{plain_kernel, NobodyWaits}
 
 -- the same kernel but for who waits, the same outcome, and nobody waits afterwards
 pub record LeadsAlike (s : Successor) (p : plain.Successor) : Type 0 where

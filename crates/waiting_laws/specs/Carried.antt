@@ -3,20 +3,9 @@ use Rattle.std.specs.Prelude.{◌≡◌, [], map, Some, None}
 use Rattle.kernel_model.specs.Queue.{Queue}
 use Rattle.kernel_model.specs.SemaphoreSet.{SemaphoreSet}
 use Rattle.waiting_model.specs.declared.callers.Waiting.{Waiting}
-use Rattle.waiting_model.specs.declared.callers.Wake.{Wake}
-use Rattle.waiting_model.specs.Waiters.{Attempt, Awaited, Carried, IsSettled, at_rest, parked_behind, replied, waiter}
+use Rattle.waiting_model.specs.Waiters.{Attempt, Awaited, Carried, IsSettled, at_rest, parked_behind, replied, erased_waiter, erased_wake, erased}
 use Rattle.waiting_model.specs.Queue.{carry_out_on_queue, try_queue}
 use Rattle.waiting_model.specs.SemaphoreSet.{carry_out_on_set, try_set}
-
--- without the nodes and tickets of those who wait, as the kernel has them
-abbrev pub erased_waiter : Waiting → Waiting
-erased_waiter w = waiter w.pid w.call
-
-abbrev pub erased_wake : Wake → Wake
-erased_wake w = record { caller = 0; ticket = 0; pid = w.pid; reply = w.reply }
-
-abbrev pub erased : {T : Type 0} → Awaited T → Awaited T
-erased object = record object { waiters = map erased_waiter object.waiters }
 
 pub record SameErased {T : Type 0} (c d : Carried T) : Type 0 where
   pub object : erased c.object ≡ d.object

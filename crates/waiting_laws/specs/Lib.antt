@@ -1,4 +1,3 @@
-pub mod Plain
 pub mod Before
 pub mod Settled
 pub mod Removals

@@ -13,7 +13,7 @@ use Rattle.waiting_model.specs.Waiters.{Awaited}
 use Rattle.waiting_model.specs.Marks.{Alive}
 use Rattle.waiting_model.specs.Kernel.{Kernel, Process, opening, living_in}
 use Rattle.waiting_model.specs.History.{Replays}
-use Rattle.waiting_laws.specs.Plain.{AllValues}
+use Rattle.waiting_model.specs.Plain.{AllValues}
 
 -- the call with which a process waits among these, if it is one of them
 abbrev pub wait_of : ℕ → List Waiting → Option Call

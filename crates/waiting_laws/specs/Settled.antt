@@ -8,7 +8,7 @@ use Rattle.waiting_model.specs.SemaphoreSet.{try_set}
 use Rattle.waiting_model.specs.Kernel.{Kernel, opening}
 use Rattle.waiting_model.specs.Transition.{Successor, transition}
 use Rattle.waiting_model.specs.History.{Replays}
-use Rattle.waiting_laws.specs.Plain.{AllValues}
+use Rattle.waiting_model.specs.Plain.{AllValues}
 
 -- no waiter's try gives a reply, at any queue and at any set
 pub record NobodyCouldGoOn (k : Kernel) : Type 0 where

@@ -1,5 +1,5 @@
 -- Where a call waits, and which calls end a wait.
-use Rattle.std.specs.Prelude.{ℕ, Bool, false, nat_eq, Option, Some, None}
+use Rattle.std.specs.Prelude.{ℕ, Bool, false, nat_eq, Option, Some, None, is_some}
 use Rattle.pico_base.specs.declared.call.Call.{Call}
 use Rattle.pico_base.specs.declared.call.Call.TheVariants as calls
 use Rattle.pico_base.specs.declared.numbers.Name.{Name}
@@ -23,6 +23,9 @@ is_same_name name other = false
 abbrev pub withdrawn_from : Call → Option Name
 withdrawn_from (calls.Withdraw name) = Some name
 withdrawn_from call = None
+
+abbrev pub is_withdrawal : Call → Bool
+is_withdrawal call = is_some (withdrawn_from call)
 
 -- a call that may have to wait; a withdrawal never does
 abbrev pub may_park : Call → Bool

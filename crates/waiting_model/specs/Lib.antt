@@ -4,6 +4,7 @@ pub mod Queue
 pub mod SemaphoreSet
 pub mod Marks
 pub mod Kernel
+pub mod Plain
 pub mod Effect
 pub mod ProcessCalls
 pub mod QueueCalls

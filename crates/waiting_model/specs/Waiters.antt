@@ -133,3 +133,14 @@ waits_here pid object = list_any (λ w. nat_eq pid w.pid) object.waiters
 -- no waiter's try gives a reply
 abbrev pub IsSettled : {T : Type 0} → Try T → Awaited T → Type 0
 IsSettled try object = AllByRecursion (λ w. try object.state w.pid w.call ≡ None) object.waiters
+
+-- The kernel's part of a queue or a set: the same without the nodes and tickets of those who wait. Whoever holds the
+-- queue or the set has these, since it is who sends the replies.
+abbrev pub erased_waiter : Waiting → Waiting
+erased_waiter w = waiter w.pid w.call
+
+abbrev pub erased_wake : Wake → Wake
+erased_wake w = record { caller = 0; ticket = 0; pid = w.pid; reply = w.reply }
+
+abbrev pub erased : {T : Type 0} → Awaited T → Awaited T
+erased object = record object { waiters = map erased_waiter object.waiters }
