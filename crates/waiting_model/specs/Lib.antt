@@ -12,5 +12,6 @@ pub mod SetCalls
 pub mod Transition
 pub mod History
 pub mod Fitting
+pub mod Linear
 pub mod Examples
 pub mod TraceExamples
