@@ -10,7 +10,8 @@ pub loop-init : goal.loop-init
 loop-init c = record {
   done = [];
   tally = c.in_ok-judge.ensures.tally;
-  steady = subst (AreSteady c.args.script.now) (sym c.in_ok-judge.ensures.cursors) (record { waits = tt; rising = refl }, tt);
+  steady = subst (AreSteady c.args.script.now) (sym c.in_ok-judge.ensures.cursors)
+      (record { waits = tt; rising = refl }, tt);
   so_far = judge-starts c.args.script.now _ c.args.bytes.now c.args.first_line _ _ (omega arith)
       c.in_ok-judge.ensures.kernel c.in_ok-judge.ensures.cursors;
   few = omega arith;
@@ -40,7 +41,8 @@ returns-then-branch c =
     c.in-Some.text.now c.in-Some.after.now c.in-Some.ensures
     (length c.args.bytes.now - c.loop.counter) (omega arith) (sym c.fits.ensures ∙ c.if-not-fits.false)
     (sym (c.in_ok-is_totals.ensures c.loop.invariant.done c.loop.invariant.tally) ∙ c.if-branch.true) in
-    let entries : c.loop.line - c.args.first_line ≡ length c.loop.invariant.done = omega (arith, c.loop.invariant.count) in
+    let entries : c.loop.line - c.args.first_line ≡ length c.loop.invariant.done =
+    omega (arith, c.loop.invariant.count) in
     subst (Gives c.totals.result)
     (ap (λ (n : ℕ). judge_totals c.loop.line n
     (so_far_of c.args.script.now c.loop.judge.kernel c.loop.judge.cursors.entries) c.in-Some.after.now
