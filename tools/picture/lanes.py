@@ -9,7 +9,7 @@ from .reading import Entry, Name, Picture
 from .select import Selection
 
 MARKS = {"notready": ".", "refused": "!", "waits": "~", "woken": "*", "fork": "+", "end": "x"}
-LEGEND = "+ forks   x ends   . not ready   ! refused   ~ waits   * woken   @N by node N, not the caller's own"
+LEGEND = "+ forks   x ends   . not ready   ! refused   ~ waits   * wakes   @N by node N, not the caller's own"
 MOST_NAMES, NARROWEST, WIDEST, NAME_WIDTH = 12, 26, 36, 5
 
 
@@ -83,7 +83,10 @@ class Lanes:
             return fit(f"{MARKS.get(entry.kind, ' ')} {text}", self.lane - len(other), other)
         if entry.kind == "fork" and process.begins == at and pid in entry.about:
             return fit("+ begins", self.lane)
-        return fit("|" if lives(process, at) else "", self.lane)
+        wait = process.wait_at(at)
+        if wait and wait[1] == at:
+            return fit(f"* woken: {wait[2]}", self.lane)
+        return fit(line_of(process, at), self.lane)
 
     def takes(self, first: int, behind: int, at: int):
         """A row for each frame that is taken in these events, before the entry at that place."""
@@ -95,11 +98,18 @@ class Lanes:
 
     def arrow(self, taker: int, sender: int, at: int) -> str:
         """A row with an arrow from one column to another."""
-        row = "".join(fit("|" if lives(self.picture.processes[it], at) else "", self.lane) for it in self.pids)
+        row = "".join(fit(line_of(self.picture.processes[it], at), self.lane) for it in self.pids)
         left, right = min(taker, sender) * self.lane, max(taker, sender) * self.lane
         dashes = "-" * (right - left - 1)
         drawn = f"<{dashes}|" if taker < sender else f"|{dashes}>"
         return (" " * self.gutter + row[:left] + drawn + row[right + 1 :]).rstrip()
+
+
+def line_of(process, at: int) -> str:
+    """What stands in a process's column beside others' entries: a line while it lives, dots while it waits."""
+    if not lives(process, at):
+        return ""
+    return ":" if process.wait_at(at) else "|"
 
 
 def lives(process, at: int) -> bool:

@@ -172,7 +172,30 @@ function drawLives(out, top, high) {
     // a node may take frames when its process has ended
     if (state.events && from < last) out.push(line(x, from, x, last, 'class="node"'));
     if (from < to) out.push(line(x, from, x, to, `class="life" stroke="${colorOf(lane)}"`));
+    drawWaits(out, data.processes[lane][6], x, from, to);
   });
+}
+
+// A process's line is broken where it waits.
+function drawWaits(out, waits, x, from, to) {
+  for (const [first, last] of waits) {
+    const begins = Math.max(entryTop(first) + ENTRY / 2, from);
+    const ends = Math.min(last < 0 ? tops[rows.length] : entryTop(last) + ENTRY / 2, to);
+    if (begins < ends) out.push(line(x, begins, x, ends, 'class="wait"'));
+  }
+}
+
+// Whom an entry wakes, and with which reply.
+function drawWoken(out, at, x, half) {
+  for (const lane of data.entries[at][6]) {
+    const wait = lane === data.entries[at][0] ? undefined : data.processes[lane][6].find((it) => it[1] === at);
+    if (!wait || laneAt[lane] < 0) continue;
+    const to = middle(laneAt[lane]), shown = cut(`= ${wait[2]}`, Math.floor((laneWidth - 30) / LETTER));
+    out.push(arrow(x, to, half, "woke"));
+    const box = `x="${to + 7}" y="${half - 9}" width="${shown.length * LETTER + 8}" height="${ENTRY - 4}" rx="3"`;
+    out.push(`<rect ${box} fill="var(--paper)" stroke="var(--woken)"/>`);
+    out.push(`<text x="${to + 11}" y="${half + 4}" style="fill:var(--woken)">${escaped(shown)}</text>`);
+  }
 }
 
 function drawEntry(out, at, y) {
@@ -187,6 +210,7 @@ function drawEntry(out, at, y) {
   if (kind === "fork" && about.length > 1 && laneAt[about[1]] >= 0) {
     out.push(arrow(x, middle(laneAt[about[1]]), half, "born"));
   }
+  drawWoken(out, at, x, half);
   const shown = brief(call, reply, Math.floor((laneWidth - 30) / LETTER)), wide = shown.length * LETTER + 8;
   const box = `x="${x + 7}" y="${y + 2}" width="${wide}" height="${ENTRY - 4}" rx="3" fill="var(--paper)"`;
   out.push(`<rect ${box} stroke="${kindColor(kind)}" stroke-opacity="${kind === "ok" ? 0.25 : 1}"/>`);

@@ -31,7 +31,15 @@ def data_of(picture: Picture, title: str, only: str) -> dict:
     """What the page's script draws. Processes, names and kinds are named by their places."""
     places = {pid: at for at, pid in enumerate(picture.processes)}
     processes = [
-        [it.pid, it.node, it.block, places.get(it.parent, -1), it.begins, -1 if it.ends is None else it.ends]
+        [
+            it.pid,
+            it.node,
+            it.block,
+            places.get(it.parent, -1),
+            it.begins,
+            -1 if it.ends is None else it.ends,
+            [[first, -1 if last is None else last, reply] for first, last, reply in it.waits],
+        ]
         for it in picture.processes.values()
     ]
     names = [[it.kind, it.number, it.spans, -1 if it.removed is None else it.removed, it.calls] for it in picture.names]

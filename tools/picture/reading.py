@@ -8,6 +8,7 @@ node that owns it. Between the last call at one node and the first at another it
 from __future__ import annotations
 
 import re
+from bisect import bisect_right
 from dataclasses import dataclass, field
 
 NOT_READY = ("ENOMSG", "EAGAIN")
@@ -31,8 +32,13 @@ class Entry:
     kind: str
     # the queue or set that the call is about, by its place among the names; none for the others
     name: int | None = None
-    # the processes that it is about: the caller, and whom it forks, signals or waited for
+    # the processes that it is about: the caller, and whom it forks, signals, wakes or waited for
     about: list[int] = field(default_factory=list)
+
+    @property
+    def is_call(self) -> bool:
+        """Whether its process made it. A withdrawal ends the wait of a call that was made before."""
+        return not self.call.startswith("withdraw ")
 
 
 @dataclass
@@ -45,6 +51,16 @@ class Process:
     parent: int = 0
     begins: int = 0
     ends: int | None = None
+    # its waits: the entry that parked, the one that ended the wait (none where it waits for good), and with which reply
+    waits: list[tuple[int, int | None, str]] = field(default_factory=list)
+
+    def wait_at(self, at: int) -> tuple[int, int | None, str] | None:
+        """The wait that the process is in at an entry, which isn't the one that parked."""
+        place = bisect_right(self.waits, at, key=lambda it: it[0]) - 1
+        if place < 0:
+            return None
+        first, last, _ = self.waits[place]
+        return self.waits[place] if first < at and (last is None or at <= last) else None
 
 
 @dataclass
@@ -103,6 +119,17 @@ def kind_of(call: list[str], reply: list[str], wakes: bool) -> str:
     return "fork" if call[0] == "fork" else "ok"
 
 
+def woken_in(words: list[str]) -> list[tuple[int, str]]:
+    """The processes that an entry wakes, each with its reply, from the words behind the node."""
+    found: list[tuple[int, list[str]]] = []
+    for place, word in enumerate(words):
+        if word == "wakes" and place + 1 < len(words) and words[place + 1].isdigit():
+            found.append((int(words[place + 1]), []))
+        elif found and word != "wakes" and words[place - 1] != "wakes":
+            found[-1][1].append(word)
+    return [(pid, " ".join(reply)) for pid, reply in found]
+
+
 def split(text: str) -> tuple[str, str]:
     """A script and a trace, where the text has both with a line `trace` between them; else no script."""
     lines = text.split("\n")
@@ -159,6 +186,7 @@ class Reader:
         kind = kind_of(call, reply, behind[:1] == ["wakes"])
         entry = Entry(int(words[0]), " ".join(call), " ".join(reply + behind), node, kind)
         self.note_processes(entry, call, reply)
+        self.note_waits(entry, call, woken_in(behind))
         self.note_name(entry, call, reply)
         self.picture.entries.append(entry)
         return True
@@ -180,6 +208,18 @@ class Reader:
             entry.about.append(int(call[1]))
         elif call[0] == "waitpid" and len(reply) == 3 and reply[0].isdigit():
             entry.about.append(int(reply[0]))
+
+    def note_waits(self, entry: Entry, call: list[str], woken: list[tuple[int, str]]) -> None:
+        """Who waits from here on, whom the entry wakes, and whose wait it ends."""
+        at, processes = len(self.picture.entries), self.picture.processes
+        ended = [(entry.pid, "EINTR")] if call[0] == "withdraw" else woken
+        if entry.kind == "waits":
+            processes[entry.pid].waits.append((at, None, ""))
+        for pid, reply in ended:
+            waiter = processes.get(pid)
+            if waiter and waiter.waits and waiter.waits[-1][1] is None:
+                waiter.waits[-1] = (waiter.waits[-1][0], at, reply)
+        entry.about += [pid for pid, _ in woken if pid not in entry.about]
 
     def note_name(self, entry: Entry, call: list[str], reply: list[str]) -> None:
         """Which queue or set the entry is about, and who owns it."""
@@ -239,7 +279,7 @@ class Reader:
             firsts.setdefault(event.node, event.source)
             runs[event.node] = runs.get(event.node, 0) + (not event.source)
         for entry in picture.entries:
-            calls[entry.pid] = calls.get(entry.pid, 0) + 1
+            calls[entry.pid] = calls.get(entry.pid, 0) + entry.is_call
         free = set(range(1, 33)) - {process.node for process in picture.processes.values()}
         for process in picture.processes.values():
             if process.node or not free:
@@ -268,9 +308,9 @@ def align(picture: Picture) -> list[int]:
             runs.setdefault(event.node, []).append(at)
     begins, ends, made = [], [], {}
     for entry in picture.entries:
-        own, number = runs.get(nodes[entry.pid], []), made.get(entry.pid, 0)
+        own, number = runs.get(nodes[entry.pid], []), made.get(entry.pid, 0) - (not entry.is_call)
         made[entry.pid] = number + 1
-        if number >= len(own):
+        if not 0 <= number < len(own):
             return []
         begins.append(own[number])
         ends.append(own[number + 1] if number + 1 < len(own) else len(picture.events))
