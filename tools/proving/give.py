@@ -6,6 +6,7 @@ usage: tools/proving/give.py [TOP]
 """
 from __future__ import annotations
 
+import fcntl
 import os
 import shutil
 import sys
@@ -17,6 +18,8 @@ def give(top: str) -> tuple[list[str], list[str]]:
     """The names of the crates that were given, and of those that lack a library."""
     os.chdir(top)
     rt.Crate.cuts_libraries = True
+    # a check in the clone may write over a library, which mustn't be the kept one
+    rt.link_or_copy = shutil.copyfile
     crates = crates_of(top)
     kept = rt.Kept(crates)
     given, lacking = [], []
@@ -35,5 +38,9 @@ def give(top: str) -> tuple[list[str], list[str]]:
 
 
 if __name__ == "__main__":
-    there, missing = give(os.path.abspath(sys.argv[1] if len(sys.argv) > 1 else "."))
+    folder = os.path.abspath(sys.argv[1] if len(sys.argv) > 1 else ".")
+    # two at once in one clone would take each other's libraries for damaged ones
+    with open(f"{folder}/.give.lock", "w", encoding="utf-8") as lock:
+        fcntl.flock(lock, fcntl.LOCK_EX)
+        there, missing = give(folder)
     print(f"{len(there)} libraries given; lacking: {' '.join(missing) or 'none'}")
