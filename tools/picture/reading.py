@@ -8,7 +8,7 @@ node that owns it. Between the last call at one node and the first at another it
 from __future__ import annotations
 
 import re
-from bisect import bisect_right
+from bisect import bisect_left
 from dataclasses import dataclass, field
 
 NOT_READY = ("ENOMSG", "EAGAIN")
@@ -56,11 +56,9 @@ class Process:
 
     def wait_at(self, at: int) -> tuple[int, int | None, str] | None:
         """The wait that the process is in at an entry, which isn't the one that parked."""
-        place = bisect_right(self.waits, at, key=lambda it: it[0]) - 1
-        if place < 0:
-            return None
-        first, last, _ = self.waits[place]
-        return self.waits[place] if first < at and (last is None or at <= last) else None
+        # (a shorter tuple stands before all that begin like it)
+        wait = self.waits[bisect_left(self.waits, (at,)) - 1] if self.waits and self.waits[0][0] < at else None
+        return wait if wait and (wait[1] is None or at <= wait[1]) else None
 
 
 @dataclass
