@@ -2,7 +2,7 @@
 ghost use Rattle.std.specs.Prelude.{◌≡◌, IfOk};
 
 use crate::blocks::{no_end, no_end_before, no_line, no_proc, too_many_blocks, too_many_calls};
-use crate::causes::{bad_argument, unknown_call, waiting_form};
+use crate::causes::{bad_argument, unknown_call};
 use crate::forks::{fork_backwards, forked_twice, never_forked, unknown_proc};
 use crate::reading::{Reading, first_word};
 use crate::variables::unset_variable;
@@ -83,7 +83,6 @@ fn of_call<'a>(cause: Cause<'a>, first: Word<'a>, name: &'a [u8]) -> Option<Told
     match name {
         b"UnknownCall" => Some(Told::alone(unknown_call(Call::of(cause.words()), first))),
         b"BadArgument" => Some(bad_argument(cause, first)),
-        b"WaitingForm" => Some(Told::alone(waiting_form(cause))),
         _ => None,
     }
 }

@@ -110,7 +110,6 @@ hello_is_sound =
       forward = refl;
       forked_once = refl;
       lines = refl;
-      at_once = refl;
       exits = refl;
       variables = refl;
       calls = refl;

@@ -12,7 +12,6 @@ use Rattle.pico_base.specs.declared.script.Script.{Script}
 use Rattle.number_maps.specs.Maps.{Numbered, get}
 use Rattle.kernel_model.specs.Numbers.{is_between, is_positive_u32, is_u16, is_u32}
 use Rattle.kernel_model.specs.Texts.{has_spelling}
-use Rattle.kernel_model.specs.Waiting.{is_waiting}
 
 -- the values of variables, by rising variable
 abbrev pub Vars : Type 0
@@ -313,9 +312,8 @@ pub record IsSoundScript (s : Script) : Type 0 where
   -- each block but the first is forked by one line, which stands in an earlier block
   pub forward : IsTrue (list_all (goes_forward s) (forks_of s))
   pub forked_once : IsTrue (list_all (λ b. nat_eq b.0 1 || is_forked_once s b.0) (enumerate_from 1 s.blocks))
-  -- each line is within its ranges, and in no form that may wait
+  -- each line is within its ranges; no line is a withdrawal or the end by a signal
   pub lines : IsTrue (each_line is_line s)
-  pub at_once : IsTrue (each_line (λ line. not (is_waiting line.call)) s)
   -- no call stands after exit
   pub exits : IsTrue (list_all (λ b. ends_rightly b.lines) s.blocks)
   pub variables : IsTrue (uses_known_from [] 1 s.blocks)

@@ -175,7 +175,6 @@ finish names place o stands out some =
           (λ j l m. once_of place.blocks place.lines j none
           (f.count j ∙ ap {B = ℕ} (λ (b : Bool). cond b 1 0) (f.forked j l (omega (arith, m, closed)))));
       lines = t.blocks_lines;
-      at_once = t.blocks_never_wait;
       exits = t.blocks_end;
       variables = s.known.uses_blocks;
       calls = le-leb (sum_by model.calls_in place.blocks) 20000 (omega (arith, t.few, t.counted));
@@ -232,8 +231,6 @@ first_place names = (
           outside = λ _. refl;
           blocks_lines = refl;
           lines = refl;
-          blocks_never_wait = refl;
-          lines_never_wait = refl;
           blocks_end = refl;
           end = refl;
           going = λ _. refl;

@@ -29,7 +29,6 @@ pub record IsFaultless (place : Place) (size : ℕ) (said : Said) : Type 0 where
   pub forward : spec.forks_back place said ≡ false
   pub few_procs : spec.is_proc_too_many place said ≡ false
   pub few_calls : ltb 20000 (place.calls + spec.calls_of place said) ≡ false
-  pub at_once : spec.waits said ≡ false
 
 after_none : (b : Bool) (x : ScriptFault) (o : Option ScriptFault) → cond b (Some x) o ≡ None → (b ≡ false) × (o ≡ None)
 after_none true x o e = absurd (none-some x (sym e))
@@ -52,7 +51,6 @@ faultless place size said e =
     let k = after_none _ _ _ j.1 in
     let l = after_none _ _ _ k.1 in
     let m = after_none _ _ _ l.1 in
-    let n = after_none _ _ _ m.1 in
     record {
       short = a.0;
       no_proc = b.0;
@@ -66,7 +64,6 @@ faultless place size said e =
       forward = k.0;
       few_procs = l.0;
       few_calls = m.0;
-      at_once = n.0;
     }
 
 -- ---- what a line adds

@@ -8,7 +8,6 @@ use Rattle.std.proofs.lemmas.List.Sums.{sum_by-append}
 use Rattle.pico_base.specs.declared.script.Block.{Block}
 use Rattle.pico_base.specs.declared.script.Line.{Line}
 use Rattle.kernel_model.specs.Script as model
-use Rattle.kernel_model.specs.Waiting.{is_waiting}
 use Rattle.script_reader.specs.declared.place.Place.{Place}
 use Rattle.script_reader.specs.declared.says.Said.{Said}
 use Rattle.script_reader.specs.declared.says.Said.TheVariants.{Skipped, Opens, BadProc, Ends, Unknown, Bad, Forks, Calls}
@@ -30,9 +29,6 @@ and_true false = refl
 
 abbrev pub is_going : Line → Bool
 is_going line = not (model.is_exit line.call)
-
-abbrev pub never_waits : Line → Bool
-never_waits line = not (is_waiting line.call)
 
 ends_push : (lines : List Line) (line : Line) → list_all is_going lines ≡ true
     → model.ends_rightly (lines ++ line ∷ []) ≡ true
@@ -74,8 +70,6 @@ pub record IsTidy (place : Place) : Type 0 where
   pub outside : place.inside ≡ false → place.lines ≡ []
   pub blocks_lines : list_all (λ (b : Block). list_all model.is_line b.lines) place.blocks ≡ true
   pub lines : list_all model.is_line place.lines ≡ true
-  pub blocks_never_wait : list_all (λ (b : Block). list_all never_waits b.lines) place.blocks ≡ true
-  pub lines_never_wait : list_all never_waits place.lines ≡ true
   pub blocks_end : list_all (λ (b : Block). model.ends_rightly b.lines) place.blocks ≡ true
   pub end : model.ends_rightly place.lines ≡ true
   pub going : place.over ≡ false → list_all is_going place.lines ≡ true
@@ -94,8 +88,6 @@ tidy_open place size name number h good f =
       outside = λ e. absurd (no_true e);
       blocks_lines = h.blocks_lines;
       lines = refl;
-      blocks_never_wait = h.blocks_never_wait;
-      lines_never_wait = refl;
       blocks_end = h.blocks_end;
       end = refl;
       going = λ _. refl;
@@ -128,9 +120,6 @@ tidy_end place size h f =
       outside = λ _. refl;
       blocks_lines = all_push (λ (b : Block). list_all model.is_line b.lines) place.blocks block h.blocks_lines h.lines;
       lines = refl;
-      blocks_never_wait = all_push (λ (b : Block). list_all never_waits b.lines) place.blocks block
-          h.blocks_never_wait h.lines_never_wait;
-      lines_never_wait = refl;
       blocks_end = all_push (λ (b : Block). model.ends_rightly b.lines) place.blocks block h.blocks_end h.end;
       end = refl;
       going = λ _. refl;
@@ -141,7 +130,7 @@ tidy_end place size h f =
 
 -- one more line of the open block
 tidy_line : (place : Place) (line : Line) (known : List Bool) → IsTidy place
-    → place.over ≡ false → model.is_line line ≡ true → never_waits line ≡ true
+    → place.over ≡ false → model.is_line line ≡ true
     → place.inside ≡ true
     → place.calls + line.tries ≤ 20000
     → IsTidy (record place {
@@ -151,15 +140,13 @@ tidy_line : (place : Place) (line : Line) (known : List Bool) → IsTidy place
           known;
       calls = place.calls + line.tries;
     })
-tidy_line place line known h going is at_once within few =
+tidy_line place line known h going is within few =
     record {
       names = h.names;
       name = h.name;
       outside = λ e. absurd (no_true (sym within ∙ e));
       blocks_lines = h.blocks_lines;
       lines = all_push model.is_line place.lines line h.lines is;
-      blocks_never_wait = h.blocks_never_wait;
-      lines_never_wait = all_push never_waits place.lines line h.lines_never_wait at_once;
       blocks_end = h.blocks_end;
       end = ends_push place.lines line (h.going going);
       going = λ e. all_push is_going place.lines line (h.going going) (ap not e);
@@ -192,7 +179,7 @@ tidy_step names place size o (Forks set None) h fine f = h
 tidy_step names place size o (Forks set (Some number)) h fine f =
     let line : Line = spec.fork_line set number in
     let t = tidy_line place line (spec.known_with place.known set) h
-    (going_of place size (Forks set (Some number)) f refl) (fork_is_line set number fine.0) refl
+    (going_of place size (Forks set (Some number)) f refl) (fork_is_line set number fine.0)
     (inside_of place (Forks set (Some number)) f.no_proc refl) (ltb-false 20000 (place.calls + 1) f.few_calls) in
     record {
       names = t.names;
@@ -200,8 +187,6 @@ tidy_step names place size o (Forks set (Some number)) h fine f =
       outside = t.outside;
       blocks_lines = t.blocks_lines;
       lines = t.lines;
-      blocks_never_wait = t.blocks_never_wait;
-      lines_never_wait = t.lines_never_wait;
       blocks_end = t.blocks_end;
       end = t.end;
       going = λ _. t.going refl;
@@ -211,7 +196,7 @@ tidy_step names place size o (Forks set (Some number)) h fine f =
     }
 tidy_step names place size o (Calls line) h fine f =
     tidy_line place line (spec.known_with place.known line.set) h
-    (going_of place size (Calls line) f refl) fine.0 (ap not f.at_once)
+    (going_of place size (Calls line) f refl) fine.0
     (inside_of place (Calls line) f.no_proc refl) (ltb-false 20000 (place.calls + line.tries) f.few_calls)
 tidy_step names place size o BadProc h fine f = absurd (no_true f.good)
 tidy_step names place size o Bad h fine f = absurd (no_true f.good)

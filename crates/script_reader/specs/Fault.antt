@@ -7,9 +7,8 @@ use Rattle.pico_base.specs.declared.script.Line.{Line}
 use Rattle.pico_base.specs.declared.script.Block.{Block}
 use Rattle.pico_base.specs.declared.script.Script.{Script}
 use Rattle.kernel_model.specs.Script.{is_exit}
-use Rattle.kernel_model.specs.Waiting.{is_waiting}
 use Rattle.script_reader.specs.declared.fault.ScriptFault.{ScriptFault}
-use Rattle.script_reader.specs.declared.fault.ScriptFault.TheVariants.{ScriptTooLong, NotUtf8, LineTooLong, NoProc, NoEnd, UnknownCall, BadArgument, UnsetVariable, UnknownProc, ForkedTwice, NeverForked, ForkBackwards, TooManyProcs, TooManyCalls, WaitingForm}
+use Rattle.script_reader.specs.declared.fault.ScriptFault.TheVariants.{ScriptTooLong, NotUtf8, LineTooLong, NoProc, NoEnd, UnknownCall, BadArgument, UnsetVariable, UnknownProc, ForkedTwice, NeverForked, ForkBackwards, TooManyProcs, TooManyCalls}
 use Rattle.script_reader.specs.declared.fault.ScriptStop.{ScriptStop}
 use Rattle.script_reader.specs.declared.fault.ScriptStop.TheVariants.{Memory, At}
 use Rattle.script_reader.specs.declared.place.Begun.{Begun}
@@ -196,10 +195,6 @@ abbrev pub is_proc_too_many : Place → Said → Bool
 is_proc_too_many place (Opens name number) = nat_lt 32 (number_at place)
 is_proc_too_many place said = false
 
-abbrev pub waits : Said → Bool
-waits (Calls line) = is_waiting line.call
-waits said = false
-
 -- whether a line of this length, which says this in its place, has the fault
 unfoldable pub has_fault : Place → ℕ → Said → ScriptFault → Bool
 has_fault place size said ScriptTooLong = false
@@ -216,13 +211,12 @@ has_fault place size said NeverForked = is_never_forked place said
 has_fault place size said ForkBackwards = forks_back place said
 has_fault place size said TooManyProcs = is_proc_too_many place said
 has_fault place size said TooManyCalls = nat_lt 20000 (place.calls + calls_of place said)
-has_fault place size said WaitingForm = waits said
 
 -- the faults that a line may have, in the order in which they are told
 abbrev pub line_faults : List ScriptFault
 line_faults =
     LineTooLong ∷ NoProc ∷ NoEnd ∷ UnknownCall ∷ BadArgument ∷ UnsetVariable ∷ UnknownProc ∷ ForkedTwice
-    ∷ NeverForked ∷ ForkBackwards ∷ TooManyProcs ∷ TooManyCalls ∷ WaitingForm ∷ []
+    ∷ NeverForked ∷ ForkBackwards ∷ TooManyProcs ∷ TooManyCalls ∷ []
 
 -- the fault of a line in its place
 unfoldable pub fault_of : Place → ℕ → Said → Option ScriptFault
@@ -328,4 +322,3 @@ name_of NeverForked = codes "NeverForked"
 name_of ForkBackwards = codes "ForkBackwards"
 name_of TooManyProcs = codes "TooManyProcs"
 name_of TooManyCalls = codes "TooManyCalls"
-name_of WaitingForm = codes "WaitingForm"

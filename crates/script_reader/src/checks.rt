@@ -1,15 +1,13 @@
 //! The faults of a line.
 
 ghost use Rattle.std.specs.Prelude.{◌≡◌, ◌+◌, ◌≤◌, ◌<◌, ◌^◌, length};
-ghost use Rattle.std.specs.List.{list_any};
-ghost use Rattle.kernel_model.specs.Waiting.{may_wait as may_wait_at, is_waiting as is_waiting_call};
 ghost use Rattle.script_reader.specs.Fault as spec;
 ghost use Rattle.script_reader.specs.declared.says.Said.TheVariants.{Calls};
 
 use crate::fault::ScriptFault;
 use crate::place::{MAX_BLOCKS, Place, calls_of};
 use crate::says::Said;
-use pico_base::{Call, Line, SemStep, Var};
+use pico_base::{Line, Var};
 
 /// The longest line, without its line feed.
 pub const MAX_LINE: usize = 4096;
@@ -129,35 +127,6 @@ fn is_proc_too_many(place: &Place, said: &Said) -> bool
     }
 }
 
-/// Whether an operation may have to wait.
-fn may_wait(steps: &[SemStep]) -> bool
-    ensures { result ≡ list_any may_wait_at steps.now }
-{
-    steps.iter().any(|step| step.add <= 0 && !step.nowait)
-}
-
-/// Whether the call has a form that may have to wait, or ends a wait.
-fn is_waiting(call: &Call) -> bool
-    ensures { result ≡ is_waiting_call call.now }
-{
-    match call {
-        Call::MsgSnd { nowait, .. } | Call::MsgRcv { nowait, .. } => !*nowait,
-        Call::WaitPid { nohang, .. } => !*nohang,
-        Call::SemOp { steps, .. } => may_wait(steps.as_slice()),
-        Call::Withdraw { .. } => true,
-        _ => false,
-    }
-}
-
-fn waits(said: &Said) -> bool
-    ensures { result ≡ spec.waits said.now }
-{
-    match said {
-        Said::Calls(line) => is_waiting(&line.call),
-        _ => false,
-    }
-}
-
 /// Whether a line of this length, which says this in its place, has the fault.
 #[tactic(auto, unfolding(crate::specs::Fault::has_fault))]
 fn has_fault(place: &Place, size: usize, said: &Said, fault: ScriptFault) -> bool
@@ -181,7 +150,6 @@ fn has_fault(place: &Place, size: usize, said: &Said, fault: ScriptFault) -> boo
         ScriptFault::ForkBackwards => forks_back(place, said),
         ScriptFault::TooManyProcs => is_proc_too_many(place, said),
         ScriptFault::TooManyCalls => MAX_CALLS < place.calls + calls_of(place, said),
-        ScriptFault::WaitingForm => waits(said),
     }
 }
 
@@ -218,8 +186,6 @@ fn any_fault(place: &Place, size: usize, said: &Said) -> Option<ScriptFault>
         Some(ScriptFault::TooManyProcs)
     } else if has_fault(place, size, said, ScriptFault::TooManyCalls) {
         Some(ScriptFault::TooManyCalls)
-    } else if has_fault(place, size, said, ScriptFault::WaitingForm) {
-        Some(ScriptFault::WaitingForm)
     } else {
         None
     }
@@ -241,8 +207,6 @@ fn call_fault(place: &Place, size: usize, line: &Line) -> Option<ScriptFault>
         Some(ScriptFault::UnsetVariable)
     } else if MAX_CALLS < place.calls + line.tries as usize {
         Some(ScriptFault::TooManyCalls)
-    } else if is_waiting(&line.call) {
-        Some(ScriptFault::WaitingForm)
     } else {
         None
     }

@@ -54,9 +54,6 @@ pub enum ScriptFault {
     /// The calls, each counted as often as its line may try it, pass 20,000.
     #[error("TooManyCalls")]
     TooManyCalls,
-    /// The call may have to wait.
-    #[error("WaitingForm")]
-    WaitingForm,
 }
 
 impl ScriptFault {
@@ -79,7 +76,6 @@ impl ScriptFault {
             ScriptFault::ForkBackwards => "ForkBackwards",
             ScriptFault::TooManyProcs => "TooManyProcs",
             ScriptFault::TooManyCalls => "TooManyCalls",
-            ScriptFault::WaitingForm => "WaitingForm",
         }
     }
 }

@@ -1,4 +1,4 @@
--- A generated script is sound.
+-- A generated script is sound, and no call of it waits.
 use Rattle.std.proofs.Common.{◌≡◌, ℕ, suc, ◌+◌, ◌*◌, ◌≤◌, Bool, true, false, ◌&&◌, ◌||◌, not, eqb, List, [], ◌∷◌, ◌++◌, map, length, replicate, Some, Result, refl, sym, ap, ap₂, ◌∙◌, subst, append_assoc, arith}
 use Rattle.std.specs.Prelude.{nat_eq, nat_lt, nat_le, sum_by, count_by, codes, pos, IfOk}
 use Rattle.std.specs.List.{flat_map, list_all, list_any, enumerate_from}
@@ -14,9 +14,9 @@ use Rattle.std.proofs.lemmas.Result.{IfOk-weaker}
 use Rattle.pico_base.specs.declared.script.Line.{Line}
 use Rattle.pico_base.specs.declared.script.Block.{Block}
 use Rattle.pico_base.specs.declared.script.Script.{Script}
-use Rattle.kernel_model.specs.Waiting.{is_waiting}
 use Rattle.kernel_model.specs.Script.{Fork, fork_from, forks_of, is_name, is_same, names_differ, is_line, is_known, known_at, uses_known, uses_known_from, begun_in, calls_in, ends_rightly, IsSoundScript}
 use Rattle.script_writer.specs.Generated as spec
+use Rattle.script_writer.specs.Waits.{never_waits, waits_never}
 use Rattle.script_writer.specs.Generated.{upto, main_queue, worker_queue, worker_name, make, send, receive, fork, lines_for, worker, script_with, generated}
 use Rattle.script_writer.proofs.Tables.{all_pass, length-upto}
 use Rattle.script_writer.proofs.Repeated.{targets, no_targets, all_repeated, IsSteady, uses_repeated, begun_repeated, tries_in, tries_repeated, stays, ends_rightly_without_exit, exit_follows}
@@ -275,9 +275,6 @@ module _ (m : ℕ) where
   abbrev lines_pass : (Line → Bool) → ℕ → Bool
   lines_pass test w = list_all (passes test) (upto w)
 
-  abbrev does_not_wait : Line → Bool
-  does_not_wait line = not (is_waiting line.call)
-
   sound_table : list_all is_sound_for (upto 31) ≡ true
   unfolding digits
   sound_table = refl
@@ -285,11 +282,15 @@ module _ (m : ℕ) where
   line_table : list_all (lines_pass is_line) (upto 31) ≡ true
   line_table = refl
 
-  waiting_table : list_all (lines_pass does_not_wait) (upto 31) ≡ true
+  waiting_table : list_all (lines_pass waits_never) (upto 31) ≡ true
   waiting_table = refl
 
   exit_table : list_all (lines_pass stays) (upto 31) ≡ true
   exit_table = refl
+
+  pub with_waits_never : (w : ℕ) → 1 ≤ w → w ≤ 31 → never_waits (script_with m w) ≡ true
+  with_waits_never w some small =
+      each_passes waits_never w refl refl (all_pass (lines_pass waits_never) 31 w waiting_table some small)
 
   pub with_sound : (w : ℕ) → m ≤ 300 → 1 ≤ w → w ≤ 31 → IsSoundScript (script_with m w)
   with_sound w few some small =
@@ -315,8 +316,6 @@ module _ (m : ℕ) where
             ∙ numbers_only (once (forks w)) 2 (upto w)
             ∙ d.0;
         lines = each_passes is_line w refl refl (all_pass (lines_pass is_line) 31 w line_table some small);
-        at_once =
-            each_passes does_not_wait w refl refl (all_pass (lines_pass does_not_wait) 31 w waiting_table some small);
         exits = ends_right s.blocks stay;
         variables = variables_known w d.1;
         calls = le-leb _ _ (few_calls w few small stay);
@@ -331,8 +330,22 @@ generated_sound number =
     let small : spec.workers_of number ≤ 31 = omega arith in
     with_sound (spec.messages_of number) (spec.workers_of number) few some small
 
+-- and no call of it may have to wait
+pub generated_waits_never : (number : ℕ) → never_waits (generated number) ≡ true
+unfolding generated
+generated_waits_never number =
+    let some : 1 ≤ spec.workers_of number = omega arith in
+    let small : spec.workers_of number ≤ 31 = omega arith in
+    with_waits_never (spec.messages_of number) (spec.workers_of number) some small
+
 -- a result that, if it is a script, is that one, is a sound script then
 pub given_sound : {E : Type 0} (number : ℕ) (r : Result Script E) → IfOk r (λ s. s ≡ generated number)
     → IfOk r IsSoundScript
 given_sound number r h =
     IfOk-weaker r _ _ (λ s e. subst IsSoundScript (sym e) (generated_sound number)) h
+
+-- and its calls never wait
+pub given_waits_never : {E : Type 0} (number : ℕ) (r : Result Script E) → IfOk r (λ s. s ≡ generated number)
+    → IfOk r (λ s. never_waits s ≡ true)
+given_waits_never number r h =
+    IfOk-weaker r _ _ (λ s e. ap never_waits e ∙ generated_waits_never number) h

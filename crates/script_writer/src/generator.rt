@@ -1,8 +1,9 @@
 //! Generated scripts.
 
-ghost use Rattle.std.specs.Prelude.{◌≡◌, ◌≤◌, ◌+◌, ◌++◌, ◌∷◌, [], replicate, map, IfOk, OnOk};
+ghost use Rattle.std.specs.Prelude.{◌≡◌, true, ◌≤◌, ◌+◌, ◌++◌, ◌∷◌, [], replicate, map, IfOk, OnOk};
 ghost use Rattle.kernel_model.specs.Script.{IsSoundScript};
 ghost use Rattle.script_writer.specs.Generated as spec;
+ghost use Rattle.script_writer.specs.Waits.{never_waits};
 
 use itoa::Buffer;
 use pico_base::{Block, Blocks, Bytes, Call, Id, Line, Lines, Memory, Node, Script, Var};
@@ -172,11 +173,12 @@ fn script_with(alloc: Global, messages: u32, workers: u8) -> Result<Script, Memo
 
 /// The generated script of this number. It has 2 + N mod 31 blocks: `main` and workers `w1`, `w2` and so on. Main
 /// makes the queue `s`; then for each worker k in order it makes the queue `qk`, sends 10 + N mod 291 messages to it
-/// and forks the worker, which receives them all and then sends one message to the queue `s`.
+/// and forks the worker, which receives them all and then sends one message to the queue `s`. No call of it waits.
 #[tactic(auto, unfolding(crate::specs::Generated::generated))]
 pub fn generate(alloc: Global, number: u32) -> Result<Script, Memory>
     ensures script { IfOk result (λ script. script ≡ spec.generated number) }
     ensures sound { IfOk result IsSoundScript }
+    ensures waits { IfOk result (λ script. never_waits script ≡ true) }
 {
     script_with(alloc, 10 + number % 291, 1 + (number % 31) as u8)
 }

@@ -24,11 +24,12 @@ use Rattle.trace_check.specs.FirstFault.{judge_from, verdict_of}
 -- what a verdict on literal bytes computes with
 unfoldable pub lines_on_literals : ⊤
 unfolding entries_total processes_total not_ready_total refused_total set_text judge_from verb_of fork_at exit_at
-    kill_at sigaction_at msgget_at msgget_key_at options_at object_at msgsnd_at msgrcv_at withdrawal_from_at
-    withdrawal_at no_call_at call_at numbered_at message_at word_reply_at reply_at own_at made_at by_at wake_at
-    entry_at entry_in strip digit_at digits_front number_at signed_at word_at flag_at named_at many hex_at escape_at
-    text_byte_at quoted_at repeated_at repetition_at text_at digits negative_at stat_at all_values_at exited_at
-    ended_by_at set_at argument_at
+    kill_at
+    sigaction_at msgget_at msgget_key_at options_at object_at msgsnd_at msgrcv_at withdrawal_from_at withdrawal_at
+    no_call_at call_at numbered_at message_at word_reply_at reply_at own_at made_at by_at wake_at entry_at entry_in
+    strip digit_at digits_front number_at signed_at word_at flag_at named_at many hex_at escape_at text_byte_at
+    quoted_at repeated_at repetition_at text_at digits negative_at stat_at all_values_at exited_at ended_by_at set_at
+    argument_at
 lines_on_literals = tt
 
 -- A process that doesn't wait.

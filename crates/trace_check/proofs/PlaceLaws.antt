@@ -66,7 +66,7 @@ pub progress-at : (script : Script) (cursors : Numbered Cursor) (pid : ℕ)
 unfolding each
 progress-at script cursors pid = get-each (progress_of script) cursors pid
 
--- a put cursor's place is put
+-- a cursor put in is its progress put in
 pub progress-put : (script : Script) (cursors : Numbered Cursor) (pid : ℕ) (c : Cursor)
     → put (places_of script cursors) pid (progress_of script c) ≡ places_of script (put cursors pid c)
 unfolding each
@@ -135,7 +135,7 @@ comes-of script cursors pid doom call None there may = absurd (cc)
 comes-of script cursors pid doom call (Some c) there may =
     record { cursor = c; there = there; may = may-make script pid doom c call may }
 
--- what the test of a call says, as a record
+-- a call that may come has a cursor
 pub comes : (script : Script) (cursors : Numbered Cursor) (pid : ℕ) (doom : Option Sig) (call : Call)
     → may_come_in script cursors pid doom call ≡ true → MayCome script cursors pid call
 comes script cursors pid doom call may = comes-of script cursors pid doom call (get cursors pid) refl may

@@ -63,7 +63,8 @@ fn judge(alloc: Global, script: &Script, bytes: &[u8], first_line: u32) -> Resul
 ///    withdrawal due, from where it waits. One that was doomed, and has had the entry that it may still have, has its
 ///    end due. In place of the script's call the end by any signal may stand.
 /// 3. `Illegal`: the kernel has no transition there, or another outcome: another reply, or other callers that are
-///    woken, or with other replies, or in another order.
+/// woken,
+///    or with other replies, or in another order.
 ///
 /// `Memory` comes where an allocation was refused.
 pub fn check_trace(

@@ -1,21 +1,46 @@
 mod Options
-mod Maps
+pub mod Rows
+pub mod Maps
+pub mod AtOnce
+mod Tries
 mod Alike
 mod Processes
 mod Objects
 mod Transitions
 mod Histories
-mod Settling
+pub mod Settling
 mod Settled
-mod Steps
+pub mod Steps
 mod Removals
 mod Waits
 mod People
 mod Parked
-mod Marked
+pub mod Marked
+pub mod Fair
 mod Entries
+pub mod OwnLines
 mod Carrying
-mod Woken
-mod MarkMoves
+pub mod SoundFine
+pub mod Woken
+pub mod MarkMoves
 mod Places
 mod Order
+mod Standing
+mod Rounds
+mod QueueLines
+mod SetLines
+pub mod RemovalLines
+mod Parents
+mod EndLines
+pub mod LinesLead
+pub mod OneEnd
+pub mod GoingOn
+mod ValidRows
+pub mod Soundness
+pub mod ParkWaits
+pub mod FitsByLines
+pub mod OthersMarks
+pub mod AtObjects
+pub mod Struck
+pub mod Leads
+pub mod ParksStruck

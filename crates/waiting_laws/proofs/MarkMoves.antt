@@ -154,7 +154,9 @@ ends-exact bs people pid a ending lives unparked None parent =
 ends-exact bs people pid a ending lives unparked (Some p) parent =
     parent-exact bs people pid a ending lives unparked p (parent p refl)
 
-parent-of : (ps : Numbered Process) (child : ℕ) (o : Option Parent) → ParentView ps child o → (p : Parent) → o ≡ Some p
+-- a parent lives
+pub parent-of : (ps : Numbered Process) (child : ℕ) (o : Option Parent) → ParentView ps child o → (p : Parent)
+    → o ≡ Some p
     → living_in ps p.pid ≡ Some p.alive
 parent-of ps child None view p is = some-isnt-none p None is refl
 parent-of ps child (Some r) view p is =
@@ -167,7 +169,8 @@ pub record ExactEffect (k : Kernel) (e : Effect) : Type 0 where
   pub marks : Exact k.processes e.kernel.processes e.wakes
   pub parks : e.own ≡ None → e.kernel.processes ≡ k.processes
 
-abbrev ExactIf : Kernel → Option Effect → Type 0
+-- such is the effect, if there is one at all
+abbrev pub ExactIf : Kernel → Option Effect → Type 0
 ExactIf k None = Unit {0}
 ExactIf k (Some e) = ExactEffect k e
 
@@ -388,7 +391,7 @@ module _ (k : Kernel) (fine : Fine k) (pid : ℕ) (a : Alive) (acts : Acts k pid
       exact-waking (record k { sets = without k.sets id; set_keys = unbind k.set_keys id }) (Some (replies.Num 0))
       (wakes_at_removal s) refl (λ h. not-none (replies.Num 0) h)
 
-  exact-call : (call : Call) (n : ℕ) → ExactIf k (effect k (waiter pid call) a n)
+  pub exact-call : (call : Call) (n : ℕ) → ExactIf k (effect k (waiter pid call) a n)
   exact-call (calls.Fork block) n = exact-fork n
   exact-call (calls.Exit status) n = exact-end (endings.Exited (status % 256))
   exact-call (calls.Killed sig) n = exact-end (endings.Killed sig)
@@ -471,7 +474,8 @@ of-makes k fine pid call n s m =
     in subst (λ (t : Successor). MovesMarks k pid call t) m.is
     (moves-by k pid m.alive m.lives call m.step exact m.step.own refl)
 
-left-processes : (k : Kernel) (pid : ℕ) (name : Name) → (unparked k pid name).processes ≡ k.processes
+-- a withdrawal changes no process but by the caller's marks
+pub left-processes : (k : Kernel) (pid : ℕ) (name : Name) → (unparked k pid name).processes ≡ k.processes
 left-processes k pid (Proc own) = refl
 left-processes k pid (Msg id) = of_queue (get k.queues id)
   where

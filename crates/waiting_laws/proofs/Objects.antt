@@ -1,35 +1,35 @@
 -- The calls on queues and sets, where nobody waits.
-use Rattle.std.proofs.Common.{◌≡◌, ◌∙◌, ℕ, zero, suc, Bool, true, false, not, ◌&&◌, ◌||◌, nat_eq, List, [], ◌∷◌, Option, Some, None, Result, Ok, Err, refl, ap, sym, subst}
+use Rattle.std.proofs.Common.{◌≡◌, ◌∙◌, ℕ, Bool, not, ◌&&◌, ◌||◌, nat_eq, List, [], Option, Some, None, Result, Ok, Err, refl, ap, sym, subst}
 use Rattle.std.specs.Prelude.{if◌then◌else◌, nat_le, length, slice_get}
-use Rattle.std.specs.List.{list_any}
 use Rattle.std.specs.Option.{option_map, option_map_or}
-use Rattle.std.proofs.lemmas.Bool.{or_parts, and_right}
 use Rattle.pico_base.specs.declared.call.SemStep.{SemStep}
 use Rattle.pico_base.specs.declared.reply.Errno.{Errno}
-use Rattle.pico_base.specs.declared.reply.Errno.TheVariants.{Einval, Enoent, Eexist, Enomsg, Eagain}
+use Rattle.pico_base.specs.declared.reply.Errno.TheVariants.{Einval, Enoent, Eexist}
 use Rattle.pico_base.specs.declared.reply.Reply.{Reply}
 use Rattle.pico_base.specs.declared.reply.Reply.TheVariants as replies
 use Rattle.number_maps.specs.Maps.{Numbered, get, put, used_with}
+use Rattle.number_maps.specs.Rising.{IsRising}
 use Rattle.number_maps.proofs.Rising.{rising-put, rising-filter}
 use Rattle.kernel_model.specs.Effect as plain_effects
 use Rattle.kernel_model.specs.Effect.{is_fresh}
-use Rattle.kernel_model.specs.Queue.{Queue, Received, empty_queue}
+use Rattle.kernel_model.specs.Queue.{Queue, empty_queue}
 use Rattle.kernel_model.specs.QueueCalls as plain_queues
 use Rattle.kernel_model.specs.QueueCalls.{unbind}
-use Rattle.kernel_model.specs.SemaphoreSet.{SemaphoreSet, Tried, Done, StopsAt, OutOfRange, new_set, op, try_ops, values_of, waiting_at, read_semaphore}
+use Rattle.kernel_model.specs.SemaphoreSet.{SemaphoreSet, new_set, waiting_at, read_semaphore}
 use Rattle.kernel_model.specs.SetCalls as plain_sets
-use Rattle.kernel_model.specs.Waiting.{may_wait}
 use Rattle.waiting_model.specs.declared.callers.Waiting.{Waiting}
 use Rattle.waiting_model.specs.Waiters.{Awaited, Attempt, Carried, attempt, changed, looked_up, unawaited, awaited, carry_out_by}
-use Rattle.waiting_model.specs.Queue.{try_send, try_receive, try_queue, carry_out_on_queue}
-use Rattle.waiting_model.specs.SemaphoreSet.{are_tried, stop_in, stop_of, waits_for, try_op, try_set, carry_out_on_set, counted, count_reply}
+use Rattle.waiting_model.specs.Queue.{try_queue, carry_out_on_queue}
+use Rattle.waiting_model.specs.SemaphoreSet.{try_set, carry_out_on_set, counted, count_reply}
 use Rattle.waiting_model.specs.Kernel.{Kernel}
 use Rattle.waiting_model.specs.Effect.{on_named}
 use Rattle.waiting_model.specs.QueueCalls.{new_queue, get_queue_at, get_queue, queue_effect, on_queue, remove_queue}
 use Rattle.waiting_model.specs.SetCalls.{new_set_of, set_size, find_set, get_set_at, get_set, set_effect, on_set, remove_set}
 use Rattle.waiting_model.specs.Plain.{each, plain_kernel, NobodyWaits}
-use Rattle.waiting_laws.proofs.Maps.{get-each, put-each, without-each, rising-each, put-same, all-get, all-put, all-filter}
+use Rattle.waiting_laws.proofs.Maps.{get-each, put-each, without-each, rising-each, all-get, all-put, all-filter}
 use Rattle.waiting_laws.proofs.Alike.{Alike, BothAlike, alike-test, alike-choice, both-choice, alike-replying, plain_effect}
+use Rattle.waiting_laws.proofs.Tries.{DoesOnQueue, answers_set}
+use Rattle.waiting_laws.proofs.Tries as tries
 
 -- Queues at which nobody waits.
 
@@ -82,59 +82,9 @@ get-queue-alike k quiet (Some key) create excl n = got-queue k quiet key create 
 
 -- msgsnd, msgrcv, msgctl: what a try comes to is what the call came to before
 
-pub record AnswersQueue (k : Kernel) (id : ℕ) (a : Attempt Queue) (p : plain_effects.Effect) : Type 0 where
-  pub kernel : record (plain_kernel k) { queues = put (queue_states k) id a.state } ≡ p.kernel
-  pub reply : a.reply ≡ p.reply
-
-abbrev pub DoesOnQueue : Kernel → ℕ → Option (Attempt Queue) → plain_effects.Effect → Type 0
-DoesOnQueue k id None p = ⊥
-DoesOnQueue k id (Some a) p = AnswersQueue k id a p
-
--- a queue that stays as it is
-same-queue : (k : Kernel) → NobodyWaits k → (id : ℕ) (q : Queue) → get (queue_states k) id ≡ Some q
-    → record (plain_kernel k) { queues = put (queue_states k) id q } ≡ plain_kernel k
-same-queue k quiet id q there =
-    ap (λ (qs : Numbered Queue). record (plain_kernel k) { queues = qs })
-    (put-same (queue_states k) id q (rising-each (λ w. w.state) k.queues quiet.queues_rise) there)
-
--- a look leaves the queue, and its kernel
-pub looks-at-queue : (k : Kernel) → NobodyWaits k → (id : ℕ) (q : Queue) → get (queue_states k) id ≡ Some q
-    → (reply : Reply) → AnswersQueue k id (attempt q reply) (plain_effect (plain_kernel k) reply)
-looks-at-queue k quiet id q there reply = record { kernel = same-queue k quiet id q there; reply = refl }
-
--- msgctl with IPC_SET
-pub changes-queue : (k : Kernel) → NobodyWaits k → (id : ℕ) (q : Queue) → get (queue_states k) id ≡ Some q
-    → (r : Result Queue Errno) → AnswersQueue k id (changed q r) (plain_queues.change_queue (plain_kernel k) id r)
-changes-queue k quiet id q there (Ok next) = record { kernel = refl; reply = refl }
-changes-queue k quiet id q there (Err e) = looks-at-queue k quiet id q there (replies.Fail e)
-
-refused-send : (k : Kernel) → NobodyWaits k → (id : ℕ) (q : Queue) → get (queue_states k) id ≡ Some q → (e : Errno)
-    → DoesOnQueue k id (try_send q true (Err e)) (plain_queues.change_queue (plain_kernel k) id (Err e))
-refused-send k quiet id q there Eagain = looks-at-queue k quiet id q there (replies.Fail Eagain)
-refused-send k quiet id q there e = looks-at-queue k quiet id q there (replies.Fail e)
-
--- msgsnd with IPC_NOWAIT
-pub sends-to-queue : (k : Kernel) → NobodyWaits k → (id : ℕ) (q : Queue) → get (queue_states k) id ≡ Some q
-    → (r : Result Queue Errno)
-    → DoesOnQueue k id (try_send q true r) (plain_queues.change_queue (plain_kernel k) id r)
-sends-to-queue k quiet id q there (Ok next) = record { kernel = refl; reply = refl }
-sends-to-queue k quiet id q there (Err e) = refused-send k quiet id q there e
-
-refused-receive : (k : Kernel) → NobodyWaits k → (id : ℕ) (q : Queue) → get (queue_states k) id ≡ Some q → (e : Errno)
-    → DoesOnQueue k id (try_receive q true (Err e)) (plain_queues.receive_effect (plain_kernel k) id (Err e))
-refused-receive k quiet id q there Enomsg = looks-at-queue k quiet id q there (replies.Fail Enomsg)
-refused-receive k quiet id q there e = looks-at-queue k quiet id q there (replies.Fail e)
-
--- msgrcv with IPC_NOWAIT
-pub receives-from-queue : (k : Kernel) → NobodyWaits k → (id : ℕ) (q : Queue) → get (queue_states k) id ≡ Some q
-    → (r : Result Received Errno)
-    → DoesOnQueue k id (try_receive q true r) (plain_queues.receive_effect (plain_kernel k) id r)
-receives-from-queue k quiet id q there (Ok r) = record { kernel = refl; reply = refl }
-receives-from-queue k quiet id q there (Err e) = refused-receive k quiet id q there e
-
 -- carried out at a queue at which nobody waits
 carried-queue : (k : Kernel) → NobodyWaits k → (id : ℕ) (q : Queue) (who : Waiting) (o : Option (Attempt Queue))
-    → (p : plain_effects.Effect) → DoesOnQueue k id o p
+    → (p : plain_effects.Effect) → DoesOnQueue (plain_kernel k) id o p
     → Alike (queue_effect k id (carry_out_by try_queue (unawaited q) who o)) p
 carried-queue k quiet id q who None p h = absurd h
 carried-queue k quiet id q who (Some a) p h =
@@ -142,14 +92,15 @@ carried-queue k quiet id q who (Some a) p h =
       kernel =
           ap (λ (qs : Numbered Queue). record (plain_kernel k) { queues = qs })
           (sym (put-each (λ w. w.state) k.queues id (unawaited a.state)))
-          ∙ h.kernel;
-      own = ap Some h.reply;
+          ∙ ap (λ (e : plain_effects.Effect). e.kernel) (sym h);
+      own = ap (λ (e : plain_effects.Effect). (let o : Option Reply = Some e.reply in o)) (sym h);
       wakes = refl;
       quiet = quiet-queues k quiet id a.state k.queue_keys k.used_queues;
     }
 
 on-queue-that-is : (k : Kernel) → NobodyWaits k → (id : ℕ) (who : Waiting) (f : Queue → plain_effects.Effect)
-    → ((q : Queue) → get (queue_states k) id ≡ Some q → DoesOnQueue k id (try_queue q who.pid who.call) (f q))
+    → ((q : Queue) → get (queue_states k) id ≡ Some q
+    → DoesOnQueue (plain_kernel k) id (try_queue q who.pid who.call) (f q))
     → (o : Option (Awaited Queue)) → get k.queues id ≡ o
     → Alike (on_named k o (λ q. queue_effect k id (carry_out_on_queue q who)))
     (plain_effects.on_named (plain_kernel k) (option_map (λ q. q.state) o) f)
@@ -165,7 +116,8 @@ on-queue-that-is k quiet id who f does (Some q) there =
 
 -- a call on a queue that is there or not
 pub on-queue-alike : (k : Kernel) → NobodyWaits k → (id : ℕ) (who : Waiting) (f : Queue → plain_effects.Effect)
-    → ((q : Queue) → get (queue_states k) id ≡ Some q → DoesOnQueue k id (try_queue q who.pid who.call) (f q))
+    → ((q : Queue) → get (queue_states k) id ≡ Some q
+    → DoesOnQueue (plain_kernel k) id (try_queue q who.pid who.call) (f q))
     → Alike (on_queue k id who) (plain_effects.on_named (plain_kernel k) (get (queue_states k) id) f)
 on-queue-alike k quiet id who f does =
     subst
@@ -294,23 +246,21 @@ get-set-alike k quiet (Some key) count create excl n = got-set k quiet key count
 
 -- semop, semctl
 
-pub record AnswersSet (k : Kernel) (id : ℕ) (s : SemaphoreSet) (r : Reply) (p : plain_effects.Effect) : Type 0 where
-  pub kernel : record (plain_kernel k) { sets = put (set_states k) id s } ≡ p.kernel
-  pub reply : r ≡ p.reply
-
 -- a call at a set at which nobody waits has its reply, and nobody waits afterwards
 pub record DoesOnSet (k : Kernel) (id : ℕ) (c : Carried SemaphoreSet) (p : plain_effects.Effect) : Type 0 where
   pub state : SemaphoreSet
   pub reply : Reply
   pub carried : (let d : Carried SemaphoreSet =
       record { object = unawaited state; own = Some reply; wakes = [] } in c ≡ d)
-  pub answers : AnswersSet k id state reply p
+  pub answers : p ≡ answers_set (plain_kernel k) id (attempt state reply)
 
-same-set : (k : Kernel) → NobodyWaits k → (id : ℕ) (s : SemaphoreSet) → get (set_states k) id ≡ Some s
-    → record (plain_kernel k) { sets = put (set_states k) id s } ≡ plain_kernel k
-same-set k quiet id s there =
-    ap (λ (ss : Numbered SemaphoreSet). record (plain_kernel k) { sets = ss })
-    (put-same (set_states k) id s (rising-each (λ w. w.state) k.sets quiet.sets_rise) there)
+-- the queues of a kernel in which nobody waits are in order
+pub queue-states-rise : (k : Kernel) → NobodyWaits k → IsRising (queue_states k)
+queue-states-rise k quiet = rising-each (λ w. w.state) k.queues quiet.queues_rise
+
+-- and its sets
+set-states-rise : (k : Kernel) → NobodyWaits k → IsRising (set_states k)
+set-states-rise k quiet = rising-each (λ w. w.state) k.sets quiet.sets_rise
 
 -- a look leaves the set, and its kernel
 pub looks-at-set : (k : Kernel) → NobodyWaits k → (id : ℕ) (s : SemaphoreSet) → get (set_states k) id ≡ Some s
@@ -323,50 +273,32 @@ looks-at-set k quiet id s there reply =
       state = s;
       reply = reply;
       carried = refl;
-      answers = record { kernel = same-set k quiet id s there; reply = refl };
+      answers = tries.looks-at-set (plain_kernel k) (set-states-rise k quiet) id s there reply;
     }
+
+-- a try that comes to something
+tries-set : (k : Kernel) (id : ℕ) (s : SemaphoreSet) (who : Waiting) (a : Attempt SemaphoreSet)
+    → (p : plain_effects.Effect) → p ≡ answers_set (plain_kernel k) id a
+    → DoesOnSet k id (carry_out_by try_set (unawaited s) who (Some a)) p
+tries-set k id s who a p h = record { state = a.state; reply = a.reply; carried = refl; answers = h }
 
 -- semctl with GETVAL and GETPID
 pub reads-set : (k : Kernel) → NobodyWaits k → (id : ℕ) (s : SemaphoreSet) → get (set_states k) id ≡ Some s
     → (who : Waiting) (r : Result ℕ Errno)
     → DoesOnSet k id (carry_out_by try_set (unawaited s) who (Some (looked_up s r)))
     (plain_effects.look_up (plain_kernel k) r)
-reads-set k quiet id s there who (Ok n) = looks-at-set k quiet id s there (replies.Num n)
-reads-set k quiet id s there who (Err e) = looks-at-set k quiet id s there (replies.Fail e)
+reads-set k quiet id s there who r =
+    tries-set k id s who (looked_up s r) _
+    (tries.reads-set (plain_kernel k) (set-states-rise k quiet) id s there r)
 
 -- semop, and semctl with SETVAL and SETALL
 pub changes-set : (k : Kernel) → NobodyWaits k → (id : ℕ) (s : SemaphoreSet) → get (set_states k) id ≡ Some s
     → (who : Waiting) (r : Result SemaphoreSet Errno)
     → DoesOnSet k id (carry_out_by try_set (unawaited s) who (Some (changed s r)))
     (plain_sets.change_set (plain_kernel k) id r)
-changes-set k quiet id s there who (Ok next) =
-    record {
-      state = next;
-      reply = replies.Num 0;
-      carried = refl;
-      answers = record { kernel = refl; reply = refl };
-    }
-changes-set k quiet id s there who (Err e) = looks-at-set k quiet id s there (replies.Fail e)
-
--- a semop each of whose operations may give up
-no-stop-at : (steps : List SemStep) (i : ℕ) → list_any may_wait steps ≡ false
-    → waits_for (slice_get steps i) ≡ false
-no-stop-at [] i h = refl
-no-stop-at (step ∷ steps) zero h = (or_parts (may_wait step) (list_any may_wait steps) h).0
-no-stop-at (step ∷ steps) (suc i) h = no-stop-at steps i (or_parts (may_wait step) (list_any may_wait steps) h).1
-
-no-stop : (steps : List SemStep) (t : Tried) → list_any may_wait steps ≡ false → waits_for (stop_in steps t) ≡ false
-no-stop steps (Done values) h = refl
-no-stop steps (StopsAt i) h = no-stop-at steps i h
-no-stop steps OutOfRange h = refl
-
--- so it has its reply at once
-pub op-at-once : (s : SemaphoreSet) (pid : ℕ) (steps : List SemStep) → list_any may_wait steps ≡ false
-    → try_op s pid steps ≡ Some (changed s (op s pid steps))
-op-at-once s pid steps h =
-    ap (λ (b : Bool). (if b then None else Some (changed s (op s pid steps))))
-    (and_right (are_tried s steps) (waits_for (stop_of s steps))
-    (no-stop steps (try_ops (values_of s.semaphores) steps) h))
+changes-set k quiet id s there who r =
+    tries-set k id s who (changed s r) _
+    (tries.changes-set (plain_kernel k) (set-states-rise k quiet) id s there r)
 
 -- who waits is counted, and there is nobody
 pub counts-set : (k : Kernel) → NobodyWaits k → (id : ℕ) (s : SemaphoreSet) → get (set_states k) id ≡ Some s
@@ -390,8 +322,8 @@ carried-set k quiet id c p h =
       kernel =
           ap (λ (ss : Numbered SemaphoreSet). record (plain_kernel k) { sets = ss })
           (sym (put-each (λ w. w.state) k.sets id (unawaited h.state)))
-          ∙ h.answers.kernel;
-      own = ap Some h.answers.reply;
+          ∙ ap (λ (e : plain_effects.Effect). e.kernel) (sym h.answers);
+      own = ap (λ (e : plain_effects.Effect). (let o : Option Reply = Some e.reply in o)) (sym h.answers);
       wakes = refl;
       quiet = quiet-sets k quiet id h.state k.set_keys k.used_sets;
     })

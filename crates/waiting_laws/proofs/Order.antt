@@ -81,7 +81,8 @@ module _ {T : Type 0} where
       order-on n try o (first_ready try o.state o.waiters) (first-in try o.state o.waiters)
       (first-of try o.state o.waiters) h (λ rest fewer. in-order n try rest fewer)
 
-  carried-in-order : (try : Try T) (o : Awaited T) (who : Waiting) (x : Option (Attempt T)) (a : Attempt T)
+  -- each call that has its reply
+  pub carried-in-order : (try : Try T) (o : Awaited T) (who : Waiting) (x : Option (Attempt T)) (a : Attempt T)
       → x ≡ Some a
       → (let c : Carried T = carry_out_by try o who x in WakesInOrder try (awaited a.state o.waiters) c.wakes c.object)
   carried-in-order try o who None a is = absurd (cc)

@@ -85,7 +85,8 @@ moves-on ps qs rs h g =
 
 -- Look-ups after a put.
 
-living-put-same : (ps : Numbered Process) (n : ℕ) (x : Process) → living_in (put ps n x) n ≡ alive_in x
+-- who lives at this number
+pub living-put-same : (ps : Numbered Process) (n : ℕ) (x : Process) → living_in (put ps n x) n ≡ alive_in x
 living-put-same ps n x = ap (option_and_then alive_in) (get-put-same ps n x)
 
 -- who lives at another number
@@ -114,7 +115,7 @@ living-is-there None a h = some-isnt-none a None h refl
 living-is-there (Some x) a h = refl
 
 -- who lives isn't over
-living-differs : (ps : Numbered Process) (n m : ℕ) (a : Alive) → living_in ps n ≡ Some a → IsOver (get ps m) → m ≢ n
+pub living-differs : (ps : Numbered Process) (n m : ℕ) (a : Alive) → living_in ps n ≡ Some a → IsOver (get ps m) → m ≢ n
 living-differs ps n m a lives over same =
     some-isnt-none a (living_in ps n) lives
     (over-isnt-living (get ps n) (subst (λ (i : ℕ). IsOver (get ps i)) same over))
@@ -535,7 +536,8 @@ bury-found-moves ps people (Found child ending) h = moves-gone ps people child h
 bury-found-moves ps people NotYet h = moves-self ps people
 bury-found-moves ps people NoChild h = moves-self ps people
 
-living-bury-found : (ps : Numbered Process) (w : Waited) → OverFound ps w → (q : ℕ) (a : Alive)
+-- who lives stays as it is when a child that is over is buried
+pub living-bury-found : (ps : Numbered Process) (w : Waited) → OverFound ps w → (q : ℕ) (a : Alive)
     → living_in ps q ≡ Some a → living_in (bury_found ps w) q ≡ Some a
 living-bury-found ps (Found child ending) h q a lives =
     living-put-other ps child Gone q (λ same. living-differs ps q child a lives h (sym same)) ∙ lives
@@ -647,7 +649,8 @@ changed-at n q f p o true is =
     (sym (same-from-nat_eq q p.0 is))
 changed-at n q f p o false is = refl
 
-get-changed : (ps : Numbered Process) (n : ℕ) (f : Alive → Alive) (q : ℕ)
+-- by number
+pub get-changed : (ps : Numbered Process) (n : ℕ) (f : Alive → Alive) (q : ℕ)
     → get (change_living ps n f) q ≡ option_map (λ x. if nat_eq n q then where_living f x else x) (get ps q)
 get-changed [] n f q = refl
 get-changed (p ∷ ps) n f q =

@@ -34,7 +34,7 @@ use Rattle.waiting_laws.proofs.MarkMoves.{entry-moves}
 use Rattle.waiting_laws.proofs.Steps.{Makes, makes, Leaves, leaves}
 
 -- each process that is somewhere waits exactly where it has a mark
-abbrev Agree : Places → (ℕ → Option Call) → Type 0
+abbrev pub Agree : Places → (ℕ → Option Call) → Type 0
 Agree places marks = (q : ℕ) (p : Progress) → get places q ≡ Some p → p.parked ≡ is_some (marks q)
 
 -- what a put leaves, and what it puts
@@ -123,7 +123,7 @@ forked k fine pid a n true e f fresh is = fine.unused_processes n (unused k.used
 forked k fine pid a n false e f fresh is = not-some e is
 
 -- the number that a fork's reply gives, is the one that it was given
-fork-number : (k : Kernel) (pid : ℕ) (block n : ℕ) (s : Successor) (child : ℕ) → Fine k
+pub fork-number : (k : Kernel) (pid : ℕ) (block n : ℕ) (s : Successor) (child : ℕ) → Fine k
     → transition k pid (calls.Fork block) n ≡ Some s → n ≡ child → mark_in k.processes child ≡ None
 fork-number k pid block n s child fine is same =
     let m : Makes k pid (calls.Fork block) n s = makes k pid (calls.Fork block) n s refl is
@@ -143,7 +143,7 @@ fork-agree script places parent call own marks agree none = agree
 
 -- One entry.
 
-abbrev marks_behind : Kernel → Entry → ℕ → Option Call
+abbrev pub marks_behind : Kernel → Entry → ℕ → Option Call
 marks_behind k e q = if nat_eq e.pid q then own_mark e.call e.outcome.own else mark_in k.processes q
 
 no-mark-of-child : (k : Kernel) → Fine k → (e : Entry) (next : Kernel) (block child : ℕ)
@@ -180,30 +180,43 @@ moved-marks k e next moves wakes q = moves q ∙ by_test (nat_eq e.pid q) refl
         (ap (λ (c : Bool). (if c then None else own_mark e.call e.outcome.own))
         (subst (λ (i : ℕ). woken_in i e.outcome.woken ≡ false) (same-from-nat_eq e.pid q is) wakes.others))
 
-agree-step : (script : Script) (k : Kernel) → Fine k → (e : Entry) (places : Places) (p : Progress) (next : Kernel)
+-- behind the entry's own call, while those whom it wakes still wait
+abbrev pub own_places : Script → Places → Entry → Progress → Places
+own_places script places e p =
+    after_fork script (put places e.pid (after_entry e.call e.outcome.own p)) p.place e.call e.outcome.own
+
+-- the caller's own reply, or its wait, moves its place as it moves its mark
+pub agree-own : (script : Script) (k : Kernel) → Fine k → (e : Entry) (places : Places) (p : Progress) (next : Kernel)
     → transition k e.pid e.call (number_in e.outcome.own) ≡ Some (successor next e.outcome)
-    → Agree places (λ q. mark_in k.processes q) → get places e.pid ≡ Some p
-    → Agree (places_after script places e p) (λ q. mark_in next.processes q)
-agree-step script k fine e places p next step agree there =
-    let s : Successor = successor next e.outcome
-    in let n : ℕ = number_in e.outcome.own
-    in let marks : ℕ → Option Call = marks_behind k e
+    → Agree places (λ q. mark_in k.processes q) → Agree (own_places script places e p) (marks_behind k e)
+agree-own script k fine e places p next step agree =
+    let marks : ℕ → Option Call = marks_behind k e
     in let mid : Places = put places e.pid (after_entry e.call e.outcome.own p)
     in let own : Agree mid marks =
     agree-put places e.pid (after_entry e.call e.outcome.own p) (λ q. mark_in k.processes q) marks agree
-    (own-parked e.call e.outcome.own p (has-reply k e.pid e.call n s step)
+    (own-parked e.call e.outcome.own p
+    (has-reply k e.pid e.call (number_in e.outcome.own) (successor next e.outcome) step)
     ∙ sym
     (ap (λ (b : Bool). is_some (if b then own_mark e.call e.outcome.own else mark_in k.processes e.pid))
     (eq-same e.pid)))
     (λ q ne.
     ap (λ (b : Bool). (if b then own_mark e.call e.outcome.own else mark_in k.processes q))
     (eq-other e.pid q (λ h. ne (sym h))))
-    in let forked_too : Agree (after_fork script mid p.place e.call e.outcome.own) marks =
-    fork-agree script mid p.place e.call e.outcome.own marks own
+    in fork-agree script mid p.place e.call e.outcome.own marks own
     (λ block child is has. no-mark-of-child k fine e next block child step is has)
+
+-- so does the whole entry, with those whom it wakes
+pub agree-step : (script : Script) (k : Kernel) → Fine k → (e : Entry) (places : Places) (p : Progress) (next : Kernel)
+    → transition k e.pid e.call (number_in e.outcome.own) ≡ Some (successor next e.outcome)
+    → Agree places (λ q. mark_in k.processes q)
+    → Agree (places_after script places e p) (λ q. mark_in next.processes q)
+agree-step script k fine e places p next step agree =
+    let s : Successor = successor next e.outcome
+    in let n : ℕ = number_in e.outcome.own
     in agree-marks (places_after script places e p)
-    (λ q. if woken_in q e.outcome.woken then None else marks q) (λ q. mark_in next.processes q)
-    (agree-woken e.outcome.woken (after_fork script mid p.place e.call e.outcome.own) marks forked_too)
+    (λ q. if woken_in q e.outcome.woken then None else marks_behind k e q) (λ q. mark_in next.processes q)
+    (agree-woken e.outcome.woken (own_places script places e p) (marks_behind k e)
+    (agree-own script k fine e places p next step agree))
     (moved-marks k e next (entry-moves k fine e.pid e.call n s step) (entry-wakes k fine e.pid e.call n s step))
 
 -- Histories.
@@ -217,9 +230,10 @@ agree-along script [] k last places to fine agree r f =
 agree-along script (e ∷ es) k last places to fine agree r f =
     agree-along script es r.next last (places_after script places e f.progress) to
     (entry-fine k fine e.pid e.call (number_in e.outcome.own) (successor r.next e.outcome) r.step)
-    (agree-step script k fine e places f.progress r.next r.step agree f.there) r.rest f.rest
+    (agree-step script k fine e places f.progress r.next r.step agree) r.rest f.rest
 
-opening-agree : (script : Script) → Agree (opening_places script) (λ q. mark_in opening.processes q)
+-- at the opening nobody is at a wait, and nobody is marked
+pub opening-agree : (script : Script) → Agree (opening_places script) (λ q. mark_in opening.processes q)
 opening-agree script q p there =
     elim (cases_eq q 1) [
       | inl same ↦

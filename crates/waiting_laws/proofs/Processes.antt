@@ -67,6 +67,7 @@ first-alike child pid (Living a) x y h = first-by_test child pid a x y (lists a.
 first-alike child pid (Ended ending) x y h = h
 first-alike child pid Gone x y h = h
 
+-- a child has the same parent in the kernel without marks
 pub parent-each : (child : ℕ) (ps : Numbered Process)
     → plain_kernels.parent_in child (each plain_process ps) ≡ option_map plain_parent (parent_in child ps)
 parent-each child [] = refl

@@ -4,6 +4,11 @@ use Rattle.std.specs.Prelude.{if◌then◌else◌}
 use Rattle.pico_base.specs.declared.call.Call.{Call}
 use Rattle.pico_base.specs.declared.call.Call.TheVariants as calls
 use Rattle.pico_base.specs.declared.numbers.Name.{Name}
+use Rattle.kernel_model.specs.Effect as plain_effects
+use Rattle.kernel_model.specs.Effect.{reply_alone}
+use Rattle.kernel_model.specs.Kernel as plain_kernels
+use Rattle.kernel_model.specs.Row as plain_rows
+use Rattle.kernel_model.specs.Transition as plain_steps
 use Rattle.waiting_model.specs.Calls.{withdrawn_from}
 use Rattle.waiting_model.specs.Waiters.{waiter}
 use Rattle.waiting_model.specs.Marks.{Alive}
@@ -72,3 +77,25 @@ left-living k pid name n s (Some a) lives is = left-if k pid name s a lives (may
 pub leaves : (k : Kernel) (pid : ℕ) (name : Name) (n : ℕ) (s : Successor)
     → transition k pid (calls.Withdraw name) n ≡ Some s → Leaves k pid name s
 leaves k pid name n s is = left-living k pid name n s (living_at k pid) refl is
+
+-- and each such effect is a result
+pub step-is : (k : Kernel) (pid : ℕ) (call : Call) (n : ℕ) (a : Alive) (e : Effect) → withdrawn_from call ≡ None
+    → living_at k pid ≡ Some a → may_make a call ≡ true → effect k (waiter pid call) a n ≡ Some e
+    → transition k pid call n ≡ Some (successor (finish_call e.kernel pid call e.own) (outcome_of_effect e))
+step-is k pid call n a e plain lives may does =
+    ap (transition_by k pid call n) lives
+    ∙ (ap (step_by k pid call n a) plain
+    ∙ (ap (λ (b : Bool). (if b then outcome_of pid call (effect k (waiter pid call) a n) else None)) may
+    ∙ ap (outcome_of pid call) does))
+
+-- the same in the kernel in which nobody waits
+pub plain-step-is : (k : plain_kernels.Kernel) (pid : ℕ) (call : Call) (n : ℕ) (a : plain_rows.Alive)
+    → (e : plain_effects.Effect) → plain_kernels.living_at k pid ≡ Some a → plain_steps.may_make a call ≡ true
+    → plain_steps.effect k pid a call n ≡ Some e
+    → plain_steps.transition k pid call n
+    ≡ Some (plain_steps.successor
+    (plain_steps.finish_call e.kernel pid (plain_kernels.living_at e.kernel pid)) (reply_alone e.reply))
+plain-step-is k pid call n a e lives may does =
+    ap (plain_steps.transition_by k pid call n) lives
+    ∙ (ap (λ (b : Bool). (if b then plain_steps.outcome_of pid (plain_steps.effect k pid a call n) else None)) may
+    ∙ ap (plain_steps.outcome_of pid) does)

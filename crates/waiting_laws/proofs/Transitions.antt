@@ -39,7 +39,9 @@ use Rattle.waiting_laws.specs.Before.{LeadsAlike, LeadAlike, CallsAreAsBefore}
 use Rattle.waiting_laws.proofs.Maps.{get-each, all-get}
 use Rattle.waiting_laws.proofs.Alike.{Alike, BothAlike, alike-replying, alike-with_alive, quiet-processes}
 use Rattle.waiting_laws.proofs.Processes.{fork-alike, end-alike, reap-alike, signals-alike, kill-alike}
-use Rattle.waiting_laws.proofs.Objects.{get-queue-alike, on-queue-alike, remove-queue-alike, looks-at-queue, changes-queue, sends-to-queue, receives-from-queue, get-set-alike, on-set-alike, remove-set-alike, set_states, DoesOnSet, looks-at-set, reads-set, changes-set, op-at-once, counts-set}
+use Rattle.waiting_laws.proofs.Objects.{get-queue-alike, on-queue-alike, remove-queue-alike, queue-states-rise, get-set-alike, on-set-alike, remove-set-alike, set_states, DoesOnSet, looks-at-set, reads-set, changes-set, counts-set}
+use Rattle.waiting_laws.proofs.AtOnce.{op-at-once}
+use Rattle.waiting_laws.proofs.Tries.{looks-at-queue, changes-queue, sends-to-queue, receives-from-queue}
 
 -- a semop with no operation that may have to wait
 op-alike : (k : Kernel) → NobodyWaits k → (pid id : ℕ) (steps : List SemStep) (b : Bool) → list_any may_wait steps ≡ b
@@ -82,18 +84,19 @@ effects-alike k quiet pid a unparked (calls.WaitPid child false) n h = absurd (t
 effects-alike k quiet pid a unparked (calls.MsgGet key create excl) n h = get-queue-alike k quiet key create excl n
 effects-alike k quiet pid a unparked (calls.MsgSnd id class text true) n h =
     on-queue-alike k quiet id (waiter pid (calls.MsgSnd id class text true)) _
-    (λ q there. sends-to-queue k quiet id q there (send q pid class text))
+    (λ q there. sends-to-queue (plain_kernel k) (queue-states-rise k quiet) id q there (send q pid class text))
 effects-alike k quiet pid a unparked (calls.MsgSnd id class text false) n h = absurd (true≢false h)
 effects-alike k quiet pid a unparked (calls.MsgRcv id class size noerror true) n h =
     on-queue-alike k quiet id (waiter pid (calls.MsgRcv id class size noerror true)) _
-    (λ q there. receives-from-queue k quiet id q there (receive q pid class size noerror))
+    (λ q there. receives-from-queue (plain_kernel k) (queue-states-rise k quiet) id q there
+    (receive q pid class size noerror))
 effects-alike k quiet pid a unparked (calls.MsgRcv id class size noerror false) n h = absurd (true≢false h)
 effects-alike k quiet pid a unparked (calls.MsgStat id) n h =
     on-queue-alike k quiet id (waiter pid (calls.MsgStat id)) _
-    (λ q there. looks-at-queue k quiet id q there (stat q))
+    (λ q there. looks-at-queue (plain_kernel k) (queue-states-rise k quiet) id q there (stat q))
 effects-alike k quiet pid a unparked (calls.MsgSet id qbytes) n h =
     on-queue-alike k quiet id (waiter pid (calls.MsgSet id qbytes)) _
-    (λ q there. changes-queue k quiet id q there (set_qbytes q qbytes))
+    (λ q there. changes-queue (plain_kernel k) (queue-states-rise k quiet) id q there (set_qbytes q qbytes))
 effects-alike k quiet pid a unparked (calls.MsgRmid id) n h = remove-queue-alike k quiet id
 effects-alike k quiet pid a unparked (calls.SemGet key count create excl) n h =
     get-set-alike k quiet key count create excl n
@@ -133,7 +136,8 @@ changed-if true f (Ended ending) h = refl
 changed-if true f Gone h = refl
 changed-if false f p h = refl
 
-same-processes : (ps : Numbered Process) (pid : ℕ) (f : Alive → Alive)
+-- nor does a change of marks change a process without them
+pub same-processes : (ps : Numbered Process) (pid : ℕ) (f : Alive → Alive)
     → ((a : Alive) → plain_alive (f a) ≡ plain_alive a)
     → each plain_process (change_living ps pid f) ≡ each plain_process ps
 same-processes [] pid f h = refl
@@ -167,6 +171,7 @@ plain-alive_in (Some (Living a)) = refl
 plain-alive_in (Some (Ended ending)) = refl
 plain-alive_in (Some Gone) = refl
 
+-- who lives is the same in the kernel without marks
 pub living-each : (k : Kernel) (pid : ℕ)
     → plain_kernels.living_at (plain_kernel k) pid ≡ option_map plain_alive (living_at k pid)
 living-each k pid =

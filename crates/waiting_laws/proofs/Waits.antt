@@ -21,7 +21,7 @@ apart : (a b : ℕ) → nat_eq a b ≡ false → nat_eq b a ≡ false
 apart a b h = grind arith
 
 -- who waits with a call isn't who doesn't wait
-differs : (ws : List Waiting) (p q : ℕ) (call : Call) → wait_of p ws ≡ Some call → wait_of q ws ≡ None
+pub differs : (ws : List Waiting) (p q : ℕ) (call : Call) → wait_of p ws ≡ Some call → wait_of q ws ≡ None
     → nat_eq p q ≡ false
 differs ws p q call h g = at (nat_eq p q) refl
   where

@@ -27,6 +27,7 @@ use Rattle.kernel_model.specs.Signals.{Signals, act_on}
 use Rattle.kernel_model.specs.Transition as plain
 use Rattle.waiting_model.specs.declared.callers.Waiting.{Waiting}
 use Rattle.waiting_model.specs.declared.callers.Wake.{Wake}
+use Rattle.waiting_model.specs.Calls.{is_same_name, waits_at, withdrawn_from}
 use Rattle.waiting_model.specs.Waiters.{Awaited, Carried, waiter, wakes_at_removal}
 use Rattle.waiting_model.specs.Queue.{carry_out_on_queue, try_queue}
 use Rattle.waiting_model.specs.SemaphoreSet.{carry_out_on_set}
@@ -40,7 +41,7 @@ use Rattle.waiting_model.specs.Transition.{Successor, allowance_after, effect, f
 use Rattle.waiting_laws.specs.Parked.{wait_of, wait_in, WaitOnce, mark_at, mark_of, mark_in}
 use Rattle.waiting_laws.specs.Woken.{woken_in, WokenOnce, WakesRightly, ReachableEntriesWakeRightly}
 use Rattle.waiting_laws.proofs.Maps.{all-get}
-use Rattle.waiting_laws.proofs.Options.{not-none}
+use Rattle.waiting_laws.proofs.Options.{not-none, not-some, same-some}
 use Rattle.waiting_laws.proofs.Waits.{is_woken, OnceWoken, Settles, Carries, carries}
 use Rattle.waiting_laws.proofs.People.{mark-replied, parked_after, parent-parked, parent-view, ParentView}
 use Rattle.waiting_laws.proofs.Parked.{marks-woken}
@@ -57,8 +58,18 @@ pairs-once : (wakes : List Wake) → OnceWoken wakes → WokenOnce (map woken_pa
 pairs-once [] h = tt
 pairs-once (w ∷ wakes) h = (pairs-woken wakes w.pid ∙ h.0, pairs-once wakes h.1)
 
+-- a call in a form that may have to wait
+abbrev pub can_wait : Call → Bool
+can_wait (calls.WaitPid child nohang) = true
+can_wait (calls.MsgSnd id class text nowait) = true
+can_wait (calls.MsgRcv id class size noerror nowait) = true
+can_wait (calls.SemOp id steps) = true
+can_wait call = false
+
 record WakesWell (k : Kernel) (e : Effect) : Type 0 where
   pub was : (q : ℕ) → is_woken q e.wakes ≡ true → is_some (mark_in k.processes q) ≡ true
+  pub waited : (q : ℕ) (call : Call) → is_woken q e.wakes ≡ true → mark_in k.processes q ≡ Some call
+      → can_wait call ≡ true
   pub now : (q : ℕ) → is_woken q e.wakes ≡ true → mark_in e.kernel.processes q ≡ None
   pub once : OnceWoken e.wakes
   pub replied : e.own ≡ None → e.wakes ≡ []
@@ -74,6 +85,7 @@ wakes-nobody : (k : Kernel) (e : Effect) → e.wakes ≡ [] → WakesWell k e
 wakes-nobody k e none =
     record {
       was = λ q h. not-true (is_woken q e.wakes) h (ap (is_woken q) none);
+      waited = λ q call h marked. not-true (is_woken q e.wakes) h (ap (is_woken q) none);
       now = λ q h. not-true (is_woken q e.wakes) h (ap (is_woken q) none);
       once = subst (λ (ws : List Wake). OnceWoken ws) (sym none) tt;
       replied = λ h. none;
@@ -167,17 +179,43 @@ marked : (pid : ℕ) (name : Name) (m : Option Call) → is_some (mark_at pid na
 marked pid name None h = h
 marked pid name (Some call) h = refl
 
+-- who waits at a queue or a set does so in such a call
+abbrev AtObject : Name → Type 0
+AtObject name = (pid : ℕ) (call : Call) → is_same_name name (waits_at pid call) ≡ true → can_wait call ≡ true
+
+at-queue : (id : ℕ) → AtObject (Msg id)
+at-queue id pid (calls.MsgSnd i class text nowait) h = refl
+at-queue id pid (calls.MsgRcv i class size noerror nowait) h = refl
+at-queue id pid call h = absurd (false≢true h)
+
+at-set : (id : ℕ) → AtObject (Sem id)
+at-set id pid (calls.SemOp i steps) h = refl
+at-set id pid call h = absurd (false≢true h)
+
+waits-there : (pid : ℕ) (name : Name) → AtObject name → (m : Option Call) → is_some (mark_at pid name m) ≡ true
+    → (call : Call) → m ≡ Some call → can_wait call ≡ true
+waits-there pid name object None h call is = not-some call is
+waits-there pid name object (Some c) h call is =
+    subst (λ (x : Call). can_wait x ≡ true) (same-some c call is)
+    (object pid c (by_test (is_same_name name (waits_at pid c)) h))
+  where
+    by_test : (b : Bool) → is_some (if b then Some c else None) ≡ true → b ≡ true
+    by_test true g = refl
+    by_test false g = absurd (false≢true g)
+
 settled-well : (k mid : Kernel) (own : Option Reply) (ws after : List Waiting) (wakes : List Wake) (name : Name)
-    → mid.processes ≡ k.processes → ((q : ℕ) → wait_of q ws ≡ mark_at q name (mark_in k.processes q))
+    → AtObject name → mid.processes ≡ k.processes → ((q : ℕ) → wait_of q ws ≡ mark_at q name (mark_in k.processes q))
     → Settles ws after wakes → (own ≡ None → wakes ≡ [])
     → WakesWell k (let e : Effect = record {
       kernel = record mid { processes = fold wake_one mid.processes wakes };
       own = own;
       wakes = wakes;
     } in e)
-settled-well k mid own ws after wakes name same there s replied =
+settled-well k mid own ws after wakes name object same there s replied =
     record {
       was = λ q h. marked q name (mark_in k.processes q) (ap is_some (sym (there q)) ∙ s.was q h);
+      waited = λ q call h is.
+          waits-there q name object (mark_in k.processes q) (ap is_some (sym (there q)) ∙ s.was q h) call is;
       now =
           λ q h.
           marks-woken mid.processes wakes q
@@ -187,16 +225,16 @@ settled-well k mid own ws after wakes name same there s replied =
     }
 
 own-well : (k mid : Kernel) (who : Waiting) (own : Option Reply) (ws after : List Waiting) (wakes : List Wake)
-    → (name : Name) → mid.processes ≡ k.processes
+    → (name : Name) → AtObject name → mid.processes ≡ k.processes
     → ((q : ℕ) → wait_of q ws ≡ mark_at q name (mark_in k.processes q)) → Carries ws who after wakes own
     → WakesWell k (let e : Effect = record {
       kernel = record mid { processes = fold wake_one mid.processes wakes };
       own = own;
       wakes = wakes;
     } in e)
-own-well k mid who None ws after wakes name same there c = wakes-nobody k _ c.0
-own-well k mid who (Some reply) ws after wakes name same there c =
-    settled-well k mid (Some reply) ws after wakes name same there c (λ h. not-none reply h)
+own-well k mid who None ws after wakes name object same there c = wakes-nobody k _ c.0
+own-well k mid who (Some reply) ws after wakes name object same there c =
+    settled-well k mid (Some reply) ws after wakes name object same there c (λ h. not-none reply h)
 
 module _ (k : Kernel) (fine : Fine k) (pid : ℕ) (a : Alive) (acts : Acts k pid a) where
   queue-well : (call : Call) (id : ℕ) (o : Option (Awaited Queue)) → get k.queues id ≡ o
@@ -209,7 +247,7 @@ module _ (k : Kernel) (fine : Fine k) (pid : ℕ) (a : Alive) (acts : Acts k pid
       in let once : WaitOnce q.waiters =
       all-get (λ w. WaitOnce w.waiters) k.queues id q fine.marks.queues_once there
       in own-well k (record k { queues = put k.queues id c.object }) (waiter pid call) c.own q.waiters c.object.waiters
-      c.wakes (Msg id) refl here
+      c.wakes (Msg id) (at-queue id) refl here
       (carries try_queue q (waiter pid call) once (here pid ∙ ap (mark_at pid (Msg id)) (no-mark k pid a acts)))
 
   removed-queue-well : (id : ℕ) (o : Option (Awaited Queue)) → get k.queues id ≡ o
@@ -217,7 +255,7 @@ module _ (k : Kernel) (fine : Fine k) (pid : ℕ) (a : Alive) (acts : Acts k pid
   removed-queue-well id None there = wakes-nobody k _ refl
   removed-queue-well id (Some q) there =
       settled-well k (record k { queues = without k.queues id; queue_keys = unbind k.queue_keys id })
-      (Some (replies.Num 0)) q.waiters [] (wakes_at_removal q) (Msg id) refl
+      (Some (replies.Num 0)) q.waiters [] (wakes_at_removal q) (Msg id) (at-queue id) refl
       (λ p. ap (wait_in p) (sym there) ∙ fine.marks.queues id p)
       (removal-settles k fine pid a acts q.waiters
       (all-get (λ w. WaitOnce w.waiters) k.queues id q fine.marks.queues_once there))
@@ -232,7 +270,7 @@ module _ (k : Kernel) (fine : Fine k) (pid : ℕ) (a : Alive) (acts : Acts k pid
       λ p. ap (wait_in p) (sym there) ∙ fine.marks.sets id p
       in let once : WaitOnce s.waiters = all-get (λ w. WaitOnce w.waiters) k.sets id s fine.marks.sets_once there
       in own-well k (record k { sets = put k.sets id c.object }) (waiter pid call) c.own s.waiters c.object.waiters
-      c.wakes (Sem id) refl here
+      c.wakes (Sem id) (at-set id) refl here
       (set-carries k fine pid a acts s (waiter pid call) call once
       (here pid ∙ ap (mark_at pid (Sem id)) (no-mark k pid a acts)))
 
@@ -241,7 +279,7 @@ module _ (k : Kernel) (fine : Fine k) (pid : ℕ) (a : Alive) (acts : Acts k pid
   removed-set-well id None there = wakes-nobody k _ refl
   removed-set-well id (Some s) there =
       settled-well k (record k { sets = without k.sets id; set_keys = unbind k.set_keys id })
-      (Some (replies.Num 0)) s.waiters [] (wakes_at_removal s) (Sem id) refl
+      (Some (replies.Num 0)) s.waiters [] (wakes_at_removal s) (Sem id) (at-set id) refl
       (λ p. ap (wait_in p) (sym there) ∙ fine.marks.sets id p)
       (removal-settles k fine pid a acts s.waiters
       (all-get (λ w. WaitOnce w.waiters) k.sets id s fine.marks.sets_once there))
@@ -258,6 +296,14 @@ waited-for : (f : Family) (parked : Option Call) (w : Waited) → found_for f (a
     → is_found w ≡ true → is_some parked ≡ true
 waited-for f None w is h = not-true (is_found w) h (sym (ap is_found is))
 waited-for f (Some call) w is h = refl
+
+-- and its call was a `waitpid`
+waited-in : (f : Family) (parked : Option Call) (w : Waited) → found_for f (awaited_children parked) ≡ w
+    → is_found w ≡ true → (call : Call) → parked ≡ Some call → can_wait call ≡ true
+waited-in f None w is h call parked = not-some call parked
+waited-in f (Some (calls.WaitPid child nohang)) w is h call parked =
+    subst (λ (x : Call). can_wait x ≡ true) (same-some (calls.WaitPid child nohang) call parked) refl
+waited-in f (Some c) w is h call parked = not-true (is_found w) h (sym (ap is_found is))
 
 is-parent : (q p : ℕ) → (nat_eq q p || false) ≡ true → q ≡ p
 is-parent q p h = same-from-nat_eq q p (sym (or_false (nat_eq q p)) ∙ h)
@@ -281,6 +327,11 @@ parent-well k bs pid ending p lives (Found child how) is =
           subst (λ (i : ℕ). is_some (mark_in k.processes i) ≡ true) (sym (is-parent q p.pid h))
           (ap (λ (o : Option Alive). is_some (mark_of o)) lives
           ∙ waited-for _ p.alive.marks.parked (Found child how) is refl);
+      waited =
+          λ q call h marked.
+          waited-in _ p.alive.marks.parked (Found child how) is refl call
+          (sym (ap mark_of lives)
+          ∙ subst (λ (i : ℕ). mark_in k.processes i ≡ Some call) (is-parent q p.pid h) marked);
       now =
           λ q h.
           subst (λ (i : ℕ). mark_in (end_under bs pid ending (Some p)) i ≡ None) (sym (is-parent q p.pid h))
@@ -296,6 +347,11 @@ parent-well k bs pid ending p lives NoChild is =
           subst (λ (i : ℕ). is_some (mark_in k.processes i) ≡ true) (sym (is-parent q p.pid h))
           (ap (λ (o : Option Alive). is_some (mark_of o)) lives
           ∙ waited-for _ p.alive.marks.parked NoChild is refl);
+      waited =
+          λ q call h marked.
+          waited-in _ p.alive.marks.parked NoChild is refl call
+          (sym (ap mark_of lives)
+          ∙ subst (λ (i : ℕ). mark_in k.processes i ≡ Some call) (is-parent q p.pid h) marked);
       now =
           λ q h.
           subst (λ (i : ℕ). mark_in (end_under bs pid ending (Some p)) i ≡ None) (sym (is-parent q p.pid h))
@@ -458,6 +514,22 @@ pub entry-wakes : (k : Kernel) → Fine k → (pid : ℕ) (call : Call) (n : ℕ
     → transition k pid call n ≡ Some s → WakesRightly k pid s
 entry-wakes k fine pid (calls.Withdraw name) n s is = of-leaves k pid name s (leaves k pid name n s is)
 entry-wakes k fine pid call n s is = of-makes k fine pid call n s (makes k pid call n s refl is)
+
+-- who is woken waited in such a call
+of-made : (k : Kernel) → Fine k → (pid : ℕ) (call : Call) (n : ℕ) (s : Successor) → Makes k pid call n s
+    → (q : ℕ) (c : Call) → woken_in q s.outcome.woken ≡ true → mark_in k.processes q ≡ Some c → can_wait c ≡ true
+of-made k fine pid call n s m q c woken marked =
+    let acts : Acts k pid m.alive = acts-by k pid m.alive call m.lives m.may
+    in let well : WakesWell k m.step = subst (WellIf k) m.does (call-well k fine pid m.alive acts call n)
+    in well.waited q c
+    (sym (pairs-woken m.step.wakes q) ∙ (ap (λ (t : Successor). woken_in q t.outcome.woken) m.is ∙ woken)) marked
+
+-- whom an entry wakes was marked with a call that can wait
+pub woken-wait : (k : Kernel) → Fine k → (pid : ℕ) (call : Call) (n : ℕ) (s : Successor)
+    → transition k pid call n ≡ Some s → withdrawn_from call ≡ None → (q : ℕ) (c : Call)
+    → woken_in q s.outcome.woken ≡ true → mark_in k.processes q ≡ Some c → can_wait c ≡ true
+woken-wait k fine pid call n s is plain_call q c woken marked =
+    of-made k fine pid call n s (makes k pid call n s plain_call is) q c woken marked
 
 -- behind each legal history
 pub reachable-wakes : ReachableEntriesWakeRightly

@@ -1,10 +1,14 @@
 pub mod Before
 pub mod Settled
 pub mod Removals
+pub mod Sound
+pub mod InLine
+pub mod Lines
 pub mod Parked
 pub mod Carried
 pub mod Woken
 pub mod MarkMoves
 pub mod Places
+pub mod Fits
 pub mod Order
 pub mod Examples

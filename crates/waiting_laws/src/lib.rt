@@ -4,12 +4,15 @@
 
 ghost use Rattle.waiting_laws.specs.Before.{CallsAreAsBefore, HistoriesAreAsBefore};
 ghost use Rattle.waiting_laws.specs.Carried.{LooksWakeNobody, NodesDontMatter, ParkingAddsOne};
+ghost use Rattle.waiting_laws.specs.Fits.{HistoriesFitByLines};
+ghost use Rattle.waiting_laws.specs.Lines.{EntriesLeadInLine, LinesGoOn, LinesHaveOneEnd, ReachableKernelsParkWaits};
 ghost use Rattle.waiting_laws.specs.MarkMoves.{ReachableEntriesMoveMarks};
 ghost use Rattle.waiting_laws.specs.Order.{WakesGoInOrder};
 ghost use Rattle.waiting_laws.specs.Parked.{ReachableMarksAreWaits, ReachableWaitsFindNothing};
 ghost use Rattle.waiting_laws.specs.Places.{PlacesAreMarks};
 ghost use Rattle.waiting_laws.specs.Removals.{QueueRemovalsWakeAll, SetRemovalsWakeAll, WithdrawalsLeaveTheRest};
 ghost use Rattle.waiting_laws.specs.Settled.{EntriesSettle, ReachableKernelsAreSettled};
+ghost use Rattle.waiting_laws.specs.Sound.{EntriesKeepSoundness};
 ghost use Rattle.waiting_laws.specs.Woken.{ReachableEntriesWakeRightly};
 
 /// Where nobody waits, a call that can't park does what it does in a kernel without callers that wait: the same reply,
@@ -102,4 +105,38 @@ pub fn looks_wake_nobody()
 /// once, behind all who parked before it and could go on then.
 pub fn wakes_go_in_order()
     ensures { WakesGoInOrder }
+{}
+
+/// Each entry leads from a sound kernel to one, whether a history leads to it or not: without those who wait it is a
+/// valid kernel in which no process lists itself, a process is parked exactly where it is among those who wait, and
+/// nobody waits whose call could go on.
+pub fn entries_keep_soundness()
+    ensures { EntriesKeepSoundness }
+{}
+
+/// In each kernel that a legal history leads to, nobody is parked but with a call that may have to wait.
+pub fn reachable_kernels_park_waits()
+    ensures { ReachableKernelsParkWaits }
+{}
+
+/// In line, an entry is its caller's call, where that has its reply, and then the calls of those whom it wakes, each
+/// with its reply. From a kernel in which nobody waits, and which is alike, these lead to one that is alike again.
+pub fn entries_lead_in_line()
+    ensures { EntriesLeadInLine }
+{}
+
+/// Lines lead to one kernel and no other.
+pub fn lines_have_one_end()
+    ensures { LinesHaveOneEnd }
+{}
+
+/// A legal history with one more entry has, in line, that entry's lines behind those before.
+pub fn lines_go_on()
+    ensures { LinesGoOn }
+{}
+
+/// A legal history fits a script where, in line, it does, and the calls that wait at its end are those that are due.
+/// Each process is then at the same place of its block.
+pub fn histories_fit_by_lines()
+    ensures { HistoriesFitByLines }
 {}
