@@ -5,19 +5,23 @@ use Rattle.std.proofs.lemmas.Bool.{false≢true}
 use Rattle.pico_base.specs.declared.call.Call.{Call}
 use Rattle.pico_base.specs.declared.call.Call.TheVariants as calls
 use Rattle.pico_base.specs.declared.call.SemStep.{SemStep}
+use Rattle.pico_base.specs.declared.numbers.Kind.{Kind}
+use Rattle.pico_base.specs.declared.numbers.Kind.TheVariants as kinds
+use Rattle.pico_base.specs.declared.numbers.Name.{Name}
+use Rattle.pico_base.specs.declared.numbers.Name.TheVariants as names
 use Rattle.pico_base.specs.declared.reply.Errno.{Errno}
 use Rattle.pico_base.specs.declared.reply.Reply.{Reply}
 use Rattle.pico_base.specs.declared.reply.Reply.TheVariants as replies
 use Rattle.pico_base.specs.declared.signal.Sig.{Sig}
 use Rattle.pico_base.specs.declared.signal.SigArg.{SigArg}
-use Rattle.frame_bytes.specs.Readers.{tabled}
-use Rattle.frame_bytes.specs.Fields.{IsWord, word, half, signed, text, flag_byte, word_at, half_at, count_at}
-use Rattle.frame_bytes.specs.Calls.{step_field, steps_field, values_field, call_bytes, step_at, steps_at, set_at, asked_rows, asked_call_at, last_rows, last_call_at}
+use Rattle.frame_bytes.specs.Readers.{Reader, two, tabled}
+use Rattle.frame_bytes.specs.Fields.{IsWord, word, half, signed, text, flag_byte, name_field, name_of, word_at, half_at, count_at, kind_at}
+use Rattle.frame_bytes.specs.Calls.{step_field, steps_field, values_field, is_object, object_at, call_bytes, step_at, steps_at, set_at, asked_rows, asked_call_at, last_rows, last_call_at, withdrawal_rows, withdrawal_at}
 use Rattle.frame_bytes.specs.Replies.{reply_bytes, values_at, reply_rows, reply_at}
-use Rattle.frame_bytes.specs.Limits.{is_half, is_count, is_call, is_last_call, is_reply}
-use Rattle.frame_bytes.specs.Ranges.{HasStepRanges, HasCallRanges, HasReplyRanges}
-use Rattle.frame_bytes.proofs.Inverse.{Inverse, Field, Counted, Reads, counted-inverse, renamed, one-takes, two-takes, three-takes, four-takes, five-takes, tabled-takes, one-again, two-again, three-again, four-again, five-again}
-use Rattle.frame_bytes.proofs.FieldLaws.{word-inverse, values-count-inverse, count-inverse, word-field, half-field, positive-field, signed-field, flag-field, sig-field, sigarg-field, errno-field, text-field, whole-inverse}
+use Rattle.frame_bytes.specs.Limits.{is_half, is_count, is_call, is_last_call, is_withdrawal, is_reply}
+use Rattle.frame_bytes.specs.Ranges.{HasStepRanges, HasNameRange, HasCallRanges, HasReplyRanges}
+use Rattle.frame_bytes.proofs.Inverse.{Inverse, Field, Counted, Passes, Reads, passing-inverse, counted-inverse, renamed, one-takes, two-takes, three-takes, four-takes, five-takes, tabled-takes, one-again, two-again, three-again, four-again, five-again}
+use Rattle.frame_bytes.proofs.FieldLaws.{word-inverse, values-count-inverse, count-inverse, word-field, half-field, positive-field, signed-field, flag-field, sig-field, sigarg-field, errno-field, kind-field, text-field, name-same, whole-inverse}
 
 -- ---- operations and values
 
@@ -79,6 +83,43 @@ set-field = record { Fits = AreSet; spell = values_field; read = set_at; inverse
 abbrev values-field : Field (List ℕ)
 values-field = record { Fits = AreValues; spell = values_field; read = values_at; inverse = values-inverse }
 
+-- ---- where a call waits
+
+-- a name of any number
+abbrev any-name-at : Reader Name
+any-name-at bytes = two kind_at word_at name_of bytes
+
+any-name-fits : (k : Kind) (n : ℕ) → Unit {0} → IsWord n → HasNameRange (name_of k n)
+any-name-fits kinds.Proc n u h = h
+any-name-fits kinds.Msg n u h = h
+any-name-fits kinds.Sem n u h = h
+
+any-name-again : (name : Name) (rest : List ℕ) → HasNameRange name
+    → any-name-at (name_field name ++ rest) ≡ Some (name, rest)
+any-name-again (names.Proc n) rest h = two-again Kind ℕ Name kind-field word-field name_of kinds.Proc n rest tt h
+any-name-again (names.Msg n) rest h = two-again Kind ℕ Name kind-field word-field name_of kinds.Msg n rest tt h
+any-name-again (names.Sem n) rest h = two-again Kind ℕ Name kind-field word-field name_of kinds.Sem n rest tt h
+
+any-name-inverse : Inverse Name HasNameRange name_field any-name-at
+any-name-inverse =
+    whole-inverse Name HasNameRange name_field any-name-at
+    (two-takes Name HasNameRange name_field Kind ℕ kind-field word-field name_of [] name-same any-name-fits)
+    any-name-again
+
+-- the name of a queue or a set that has a spelling
+abbrev pub IsObject : Name → Type 0
+IsObject name = HasNameRange name × (is_object name ≡ true)
+
+pub object-inverse : Inverse Name IsObject name_field object_at
+unfolding object_at
+object-inverse =
+    renamed Name (Passes Name HasNameRange is_object) IsObject name_field object_at
+    (λ name p. (p.fits, p.passes)) (λ name p. record { fits = p.0; passes = p.1 })
+    (passing-inverse Name HasNameRange name_field any-name-at is_object any-name-inverse)
+
+abbrev object-field : Field Name
+object-field = record { Fits = IsObject; spell = name_field; read = object_at; inverse = object-inverse }
+
 -- ---- calls
 
 -- a call that has a spelling, where one node asks another to carry it out
@@ -88,6 +129,10 @@ IsAskedCall call = HasCallRanges call × (is_call call ≡ true)
 -- and where it ends a process
 abbrev pub IsLastCall : Call → Type 0
 IsLastCall call = HasCallRanges call × (is_last_call call ≡ true)
+
+-- and where it ends a wait
+abbrev pub IsWithdrawal : Call → Type 0
+IsWithdrawal call = HasCallRanges call × (is_withdrawal call ≡ true)
 
 asked-takes : Reads Call IsAskedCall call_bytes asked_call_at []
 unfolding asked_call_at
@@ -247,6 +292,22 @@ last-again call rest h = absurd (false≢true h.1)
 pub last_call-inverse : Inverse Call IsLastCall call_bytes last_call_at
 last_call-inverse = whole-inverse Call IsLastCall call_bytes last_call_at last-takes last-again
 
+withdrawal-takes : Reads Call IsWithdrawal call_bytes withdrawal_at []
+unfolding withdrawal_at
+withdrawal-takes =
+    tabled-takes Call IsWithdrawal call_bytes withdrawal_rows
+    (one-takes Call IsWithdrawal call_bytes Name object-field calls.Withdraw (20 ∷ []) (λ a. refl) (λ a p. p), tt)
+
+withdrawal-again : (call : Call) (rest : List ℕ) → IsWithdrawal call
+    → withdrawal_at (call_bytes call ++ rest) ≡ Some (call, rest)
+unfolding withdrawal_at
+withdrawal-again (calls.Withdraw name) rest h = one-again Name Call object-field calls.Withdraw name rest h
+withdrawal-again call rest h = absurd (false≢true h.1)
+
+-- so is a call that ends a wait
+pub withdrawal-inverse : Inverse Call IsWithdrawal call_bytes withdrawal_at
+withdrawal-inverse = whole-inverse Call IsWithdrawal call_bytes withdrawal_at withdrawal-takes withdrawal-again
+
 -- ---- replies
 
 -- a reply that has a spelling
@@ -268,7 +329,8 @@ reply-takes =
           (
             one-takes Reply IsAnswer reply_bytes (List ℕ) values-field replies.All (4 ∷ []) (λ a. refl) (λ a p. p),
             (
-              one-takes Reply IsAnswer reply_bytes Errno errno-field replies.Fail (5 ∷ []) (λ a. refl) (λ a p. (p, refl)),
+              one-takes Reply IsAnswer reply_bytes Errno errno-field replies.Fail (5 ∷ []) (λ a. refl)
+                  (λ a p. (p, refl)),
               tt,
             ),
           ),

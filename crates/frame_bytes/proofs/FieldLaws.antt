@@ -92,6 +92,7 @@ node-inverse =
     (λ n p. p.passes) (λ n p. record { fits = node-byte n p; passes = p })
     (passing-inverse ℕ (λ n. n < 256) (λ n. n ∷ []) byte_at is_node byte-inverse)
 
+-- a signed number in four bytes, by two's complement
 pub signed-inverse : Inverse ℤ (λ z. FitsSigned w32 z) signed signed_at
 unfolding signed_at
 signed-inverse = record { takes = take; again = give } where
@@ -296,7 +297,8 @@ whole-inverse Z Fits spell read reads again =
 abbrev pub IsName : Name → Type 0
 IsName name = IsPositive (name_number name)
 
-name-same : (k : Kind) (n : ℕ) → name_field (name_of k n) ≡ kind_byte k ∷ word n
+-- what a kind and a number make is spelled as they are
+pub name-same : (k : Kind) (n : ℕ) → name_field (name_of k n) ≡ kind_byte k ∷ word n
 name-same kinds.Proc n = refl
 name-same kinds.Msg n = refl
 name-same kinds.Sem n = refl

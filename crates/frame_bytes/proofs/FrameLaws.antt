@@ -17,14 +17,14 @@ use Rattle.rpc_frame.specs.declared.frame.Frame.TheVariants as frames
 use Rattle.body_fields.proofs.Fields.{IsBytes, bind_some, guard_ended}
 use Rattle.frame_bytes.specs.Readers.{byte_at, counted, four, tabled}
 use Rattle.frame_bytes.specs.Fields.{IsWord, IsHalf, name_number, word, half, name_field, word_at, half_at}
-use Rattle.frame_bytes.specs.Calls.{call_bytes, asked_call_at, last_call_at}
+use Rattle.frame_bytes.specs.Calls.{call_bytes, asked_call_at, last_call_at, withdrawal_at}
 use Rattle.frame_bytes.specs.Replies.{reply_bytes, reply_at}
-use Rattle.frame_bytes.specs.Frames.{is_index, have_order, are_processes, deed_field, value_field, vars_field, deeds_field, parcel_field, asked_field, frame_body, deed_at, index_at, value_at, vars_at, deeds_at, parcel_at, asked_at, frame_rows, frame_at, max_frame, whole_at}
-use Rattle.frame_bytes.specs.Limits.{is_nonzero, is_half, is_text, is_call, is_last_call, is_reply, is_deed, are_deeds, is_parcel, are_vars, has_fields}
+use Rattle.frame_bytes.specs.Frames.{is_index, have_order, are_processes, deed_field, value_field, vars_field, deeds_field, parcel_field, asked_field, asked_of, frame_body, deed_at, index_at, value_at, vars_at, deeds_at, parcel_at, asked_at, cancelled_at, frame_rows, frame_at, max_frame, whole_at}
+use Rattle.frame_bytes.specs.Limits.{is_nonzero, is_half, is_text, is_call, is_last_call, is_withdrawal, is_reply, is_deed, are_deeds, is_parcel, are_vars, has_fields}
 use Rattle.frame_bytes.specs.Ranges.{HasDeedRange, HasValueRanges, HasParcelRanges, HasAskingRanges, HasAskedRanges, HasRanges, IsFrame}
 use Rattle.frame_bytes.proofs.Inverse.{Inverse, Field, Counted, Passes, Reads, byte-inverse, passing-inverse, counted-inverse, renamed, none-takes, one-takes, two-takes, three-takes, four-takes, tabled-takes, one-again, two-again, three-again, four-again}
 use Rattle.frame_bytes.proofs.FieldLaws.{IsPositive, half-inverse, values-count-inverse, word-field, positive-field, node-field, kind-field, text-field, name-field, whole-inverse}
-use Rattle.frame_bytes.proofs.CallLaws.{IsAskedCall, IsLastCall, IsAnswer, asked_call-inverse, last_call-inverse, reply-inverse}
+use Rattle.frame_bytes.proofs.CallLaws.{IsAskedCall, IsLastCall, IsWithdrawal, IsAnswer, asked_call-inverse, last_call-inverse, withdrawal-inverse, reply-inverse}
 
 -- ---- deeds
 
@@ -159,6 +159,10 @@ call-field = record { Fits = IsAskedCall; spell = call_bytes; read = asked_call_
 abbrev last-field : Field Call
 last-field = record { Fits = IsLastCall; spell = call_bytes; read = last_call_at; inverse = last_call-inverse }
 
+abbrev withdrawal-field : Field Call
+withdrawal-field =
+    record { Fits = IsWithdrawal; spell = call_bytes; read = withdrawal_at; inverse = withdrawal-inverse }
+
 abbrev reply-field : Field Reply
 reply-field = record { Fits = IsAnswer; spell = reply_bytes; read = reply_at; inverse = reply-inverse }
 
@@ -198,9 +202,6 @@ parcel-inverse =
     )))
     parcel-again
 
-abbrev asked-of : ℕ → ℕ → ℕ → Call → Asked
-asked-of caller ticket pid call = record { caller = caller; ticket = ticket; pid = pid; call = call }
-
 -- what Ask and Request say of a call, where it has a spelling
 abbrev pub IsAsking : ℕ → ℕ → Call → Type 0
 IsAsking ticket pid call = HasAskingRanges ticket pid call × ((is_nonzero ticket && is_call call) ≡ true)
@@ -220,22 +221,45 @@ asking-call ticket pid call h = (h.0.call, (and_parts (is_nonzero ticket) (is_ca
 abbrev pub IsAsked : Asked → Type 0
 IsAsked asked = HasAskedRanges asked × ((is_nonzero asked.ticket && is_call asked.call) ≡ true)
 
+-- the fields of a call that is asked for are read back, and what is read is such a call
 pub asked-inverse : Inverse Asked IsAsked asked_field asked_at
 unfolding asked_at
 asked-inverse =
     whole-inverse Asked IsAsked asked_field asked_at
-    (four-takes Asked IsAsked asked_field ℕ ℕ ℕ Call node-field positive-field word-field call-field asked-of []
+    (four-takes Asked IsAsked asked_field ℕ ℕ ℕ Call node-field positive-field word-field call-field asked_of []
     (λ a b c d. refl)
     (λ a b c d p q r s. let t = asking-is b c d q r s in ((p, t.0), t.1)))
-    (λ a rest h. four-again ℕ ℕ ℕ Call Asked node-field positive-field word-field call-field asked-of a.caller a.ticket
+    (λ a rest h. four-again ℕ ℕ ℕ Call Asked node-field positive-field word-field call-field asked_of a.caller a.ticket
     a.pid a.call rest h.0.0
     (asking-ticket a.ticket a.pid a.call (h.0.1, h.1)) h.0.1.pid (asking-call a.ticket a.pid a.call (h.0.1, h.1)))
+
+-- the end of a wait that was asked for, where it has a spelling
+abbrev pub IsCancelled : Asked → Type 0
+IsCancelled asked = HasAskedRanges asked × ((is_nonzero asked.ticket && is_withdrawal asked.call) ≡ true)
+
+pub cancelled-inverse : Inverse Asked IsCancelled asked_field cancelled_at
+unfolding cancelled_at
+cancelled-inverse =
+    whole-inverse Asked IsCancelled asked_field cancelled_at
+    (four-takes Asked IsCancelled asked_field ℕ ℕ ℕ Call node-field positive-field word-field withdrawal-field asked_of
+    []
+    (λ a b c d. refl)
+    (λ a b c d p q r s. (
+      (p, record { ticket = q.0; pid = r; call = s.0 }),
+      and_from (is_nonzero b) (is_withdrawal d) q.1 s.1,
+    )))
+    (λ a rest h. let t = and_parts (is_nonzero a.ticket) (is_withdrawal a.call) h.1
+    in four-again ℕ ℕ ℕ Call Asked node-field positive-field word-field withdrawal-field asked_of a.caller a.ticket
+    a.pid a.call rest h.0.0 (h.0.1.ticket, t.0) h.0.1.pid (h.0.1.call, t.1))
 
 abbrev parcel-field : Field Parcel
 parcel-field = record { Fits = IsParcel; spell = parcel_field; read = parcel_at; inverse = parcel-inverse }
 
 abbrev asked-field : Field Asked
 asked-field = record { Fits = IsAsked; spell = asked_field; read = asked_at; inverse = asked-inverse }
+
+abbrev cancelled-field : Field Asked
+cancelled-field = record { Fits = IsCancelled; spell = asked_field; read = cancelled_at; inverse = cancelled-inverse }
 
 -- ---- frames
 
@@ -305,7 +329,11 @@ frame-takes =
                                       (
                                         one-takes Frame HasFields frame_body Parcel parcel-field frames.ExitTo (18 ∷ [])
                                             (λ a. refl) (λ a p. p),
-                                        tt,
+                                        (
+                                          one-takes Frame HasFields frame_body Asked cancelled-field frames.Cancel
+                                              (19 ∷ []) (λ a. refl) (λ a p. p),
+                                          tt,
+                                        ),
                                       ),
                                     ),
                                   ),
@@ -369,6 +397,7 @@ frame-again (frames.Leaving pid parent parent_node) rest h =
 frame-again frames.RecallAll rest h = refl
 frame-again (frames.Left parcel) rest h = one-again Parcel Frame parcel-field frames.Left parcel rest h
 frame-again (frames.ExitTo parcel) rest h = one-again Parcel Frame parcel-field frames.ExitTo parcel rest h
+frame-again (frames.Cancel asked) rest h = one-again Asked Frame cancelled-field frames.Cancel asked rest h
 
 pub frame-inverse : Inverse Frame HasFields frame_body frame_at
 frame-inverse = whole-inverse Frame HasFields frame_body frame_at frame-takes frame-again

@@ -1,12 +1,14 @@
 -- Calls as bytes: a code, and the call's arguments.
-use Rattle.std.specs.Prelude.{ℕ, List, [], ◌∷◌, ◌++◌, length, Some}
+use Rattle.std.specs.Prelude.{ℕ, Bool, true, false, List, [], ◌∷◌, ◌++◌, length, Some}
 use Rattle.std.specs.List.{flat_map}
 use Rattle.pico_base.specs.declared.call.Call.{Call}
 use Rattle.pico_base.specs.declared.call.Call.TheVariants as calls
 use Rattle.pico_base.specs.declared.call.SemStep.{SemStep}
+use Rattle.pico_base.specs.declared.numbers.Name.{Name}
+use Rattle.pico_base.specs.declared.numbers.Name.TheVariants as names
 use Rattle.pico_base.specs.Signal.{signal_number}
-use Rattle.frame_bytes.specs.Readers.{Reader, one, two, three, four, five, counted, tabled}
-use Rattle.frame_bytes.specs.Fields.{word, half, signed, text, flag_byte, sigarg_byte, word_at, half_at, positive_at, count_at, signed_at, flag_at, sig_at, sigarg_at, text_at}
+use Rattle.frame_bytes.specs.Readers.{Reader, one, two, three, four, five, counted, passing, tabled}
+use Rattle.frame_bytes.specs.Fields.{word, half, signed, text, flag_byte, sigarg_byte, name_field, name_of, word_at, half_at, positive_at, count_at, signed_at, flag_at, kind_at, sig_at, sigarg_at, text_at}
 
 -- an operation of semop
 
@@ -33,6 +35,16 @@ values_field values = half (length values) ++ flat_map word values
 unfoldable pub set_at : Reader (List ℕ)
 set_at bytes = counted count_at word_at bytes
 
+-- Where a call waits that a signal interrupts: a queue or a set. A script may wait on number 0, which names nothing.
+
+abbrev pub is_object : Name → Bool
+is_object (names.Proc pid) = false
+is_object (names.Msg id) = true
+is_object (names.Sem id) = true
+
+unfoldable pub object_at : Reader Name
+object_at bytes = passing is_object (two kind_at word_at name_of) bytes
+
 -- calls
 
 abbrev pub call_bytes : Call → List ℕ
@@ -58,6 +70,7 @@ call_bytes (calls.SemGetZcnt id num) = 16 ∷ (word id ++ half num)
 call_bytes (calls.SemRmid id) = 17 ∷ word id
 call_bytes (calls.Exit status) = 18 ∷ half status
 call_bytes (calls.Killed sig) = 19 ∷ signal_number sig ∷ []
+call_bytes (calls.Withdraw name) = 20 ∷ name_field name
 call_bytes _ = []
 
 -- Reading: each code with the fields behind it.
@@ -91,3 +104,9 @@ last_rows = (18, one half_at calls.Exit) ∷ (19, one sig_at calls.Killed) ∷ [
 
 unfoldable pub last_call_at : Reader Call
 last_call_at bytes = tabled last_rows bytes
+
+abbrev pub withdrawal_rows : List (ℕ × Reader Call)
+withdrawal_rows = (20, one object_at calls.Withdraw) ∷ []
+
+unfoldable pub withdrawal_at : Reader Call
+withdrawal_at bytes = tabled withdrawal_rows bytes

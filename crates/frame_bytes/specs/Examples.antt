@@ -28,3 +28,8 @@ ask = refl
 
 answer : frame_bytes (frames.Answer 3 (replies.Fail Enomsg)) ≡ 0 ∷ 0 ∷ 0 ∷ 7 ∷ 5 ∷ 0 ∷ 0 ∷ 0 ∷ 3 ∷ 5 ∷ 6 ∷ []
 answer = refl
+
+-- a signal interrupts the wait of process 2 at queue 1
+cancel : frame_bytes (frames.Cancel (record { caller = 2; ticket = 3; pid = 2; call = calls.Withdraw (names.Msg 1) }))
+    ≡ 0 ∷ 0 ∷ 0 ∷ 0x10 ∷ 0x13 ∷ 2 ∷ 0 ∷ 0 ∷ 0 ∷ 3 ∷ 0 ∷ 0 ∷ 0 ∷ 2 ∷ 0x14 ∷ 2 ∷ 0 ∷ 0 ∷ 0 ∷ 1 ∷ []
+cancel = refl

@@ -12,7 +12,7 @@ use Rattle.rpc_frame.specs.declared.frame.Frame.{Frame}
 use Rattle.rpc_frame.specs.declared.frame.Frame.TheVariants as frames
 use Rattle.frame_bytes.specs.Readers.{Reader, byte_at, passing, one, two, three, four, counted, tabled}
 use Rattle.frame_bytes.specs.Fields.{word, half, text, kind_byte, name_field, word_at, half_at, positive_at, node_at, kind_at, name_at, text_at, rise_from}
-use Rattle.frame_bytes.specs.Calls.{call_bytes, asked_call_at, last_call_at}
+use Rattle.frame_bytes.specs.Calls.{call_bytes, asked_call_at, last_call_at, withdrawal_at}
 use Rattle.frame_bytes.specs.Replies.{reply_bytes, reply_at}
 
 -- a deed: its name, and its body as a text
@@ -80,10 +80,15 @@ asking ticket pid call = word ticket ++ (word pid ++ call_bytes call)
 abbrev pub asked_field : Asked → List ℕ
 asked_field asked = asked.caller ∷ asking asked.ticket asked.pid asked.call
 
+abbrev pub asked_of : ℕ → ℕ → ℕ → Call → Asked
+asked_of caller ticket pid call = record { caller = caller; ticket = ticket; pid = pid; call = call }
+
 unfoldable pub asked_at : Reader Asked
-asked_at bytes =
-    four node_at positive_at word_at asked_call_at
-    (λ caller ticket pid call. record { caller = caller; ticket = ticket; pid = pid; call = call }) bytes
+asked_at bytes = four node_at positive_at word_at asked_call_at asked_of bytes
+
+-- the same of a withdrawal
+unfoldable pub cancelled_at : Reader Asked
+cancelled_at bytes = four node_at positive_at word_at withdrawal_at asked_of bytes
 
 -- frames
 
@@ -108,6 +113,7 @@ frame_body (frames.Leaving pid parent parent_node) = 15 ∷ (word pid ++ (word p
 frame_body frames.RecallAll = 16 ∷ []
 frame_body (frames.Left parcel) = 17 ∷ parcel_field parcel
 frame_body (frames.ExitTo parcel) = 18 ∷ parcel_field parcel
+frame_body (frames.Cancel asked) = 19 ∷ asked_field asked
 
 -- the greatest number that a length field may have
 abbrev pub max_frame : ℕ
@@ -139,6 +145,7 @@ frame_rows =
     ∷ (16, λ bytes. Some (frames.RecallAll, bytes))
     ∷ (17, one parcel_at frames.Left)
     ∷ (18, one parcel_at frames.ExitTo)
+    ∷ (19, one cancelled_at frames.Cancel)
     ∷ []
 
 unfoldable pub frame_at : Reader Frame

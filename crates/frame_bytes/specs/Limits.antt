@@ -14,6 +14,7 @@ use Rattle.rpc_frame.specs.declared.deed.Parcel.{Parcel}
 use Rattle.rpc_frame.specs.declared.frame.Frame.{Frame}
 use Rattle.rpc_frame.specs.declared.frame.Frame.TheVariants as frames
 use Rattle.frame_bytes.specs.Fields.{name_number}
+use Rattle.frame_bytes.specs.Calls.{is_object}
 use Rattle.frame_bytes.specs.Frames.{have_order, are_processes, frame_body, max_frame}
 
 -- a number that is at least 1
@@ -39,8 +40,8 @@ is_sigarg (Is sig) = true
 is_sigarg Bad = false
 
 -- The calls that one node asks another to carry out. The private gets and `kill` with a number that is no signal's are
--- carried out by their caller, and so are all calls on the caller itself. A withdrawal isn't one of them, since nobody
--- waits.
+-- carried out by their caller, and so are all calls on the caller itself. A withdrawal isn't one of them: it goes by a
+-- frame of its own.
 abbrev pub is_call : Call → Bool
 is_call (calls.Kill pid sig) = is_sigarg sig
 is_call (calls.MsgGet (Some key) create excl) = is_nonzero key
@@ -66,6 +67,11 @@ abbrev pub is_last_call : Call → Bool
 is_last_call (calls.Exit status) = true
 is_last_call (calls.Killed sig) = true
 is_last_call _ = false
+
+-- the end of a wait at a queue or a set, which another node may have
+abbrev pub is_withdrawal : Call → Bool
+is_withdrawal (calls.Withdraw name) = is_object name
+is_withdrawal _ = false
 
 -- The replies of calls that another node carries out. Sets of signals and children are replied by the caller's own
 -- node, and an exit has no reply of its own.
@@ -110,6 +116,7 @@ has_fields (frames.Leaving pid parent parent_node) = true
 has_fields frames.RecallAll = true
 has_fields (frames.Left parcel) = is_parcel parcel
 has_fields (frames.ExitTo parcel) = is_parcel parcel
+has_fields (frames.Cancel asked) = is_nonzero asked.ticket && is_withdrawal asked.call
 
 abbrev pub is_frame : Frame → Bool
 is_frame f = has_fields f && nat_le (length (frame_body f)) max_frame

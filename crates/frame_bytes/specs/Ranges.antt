@@ -21,6 +21,9 @@ pub record HasStepRanges (s : SemStep) : Type 0 where
   pub num : IsHalf s.num
   pub add : FitsSigned w32 s.add
 
+abbrev pub HasNameRange : Name → Type 0
+HasNameRange name = IsWord (name_number name)
+
 -- a call that has no spelling may have any numbers
 abbrev pub HasCallRanges : Call → Type 0
 HasCallRanges (calls.Kill pid sig) = IsWord pid
@@ -41,6 +44,7 @@ HasCallRanges (calls.SemGetNcnt id num) = IsWord id × IsHalf num
 HasCallRanges (calls.SemGetZcnt id num) = IsWord id × IsHalf num
 HasCallRanges (calls.SemRmid id) = IsWord id
 HasCallRanges (calls.Exit status) = IsHalf status
+HasCallRanges (calls.Withdraw name) = HasNameRange name
 HasCallRanges _ = Unit {0}
 
 abbrev pub HasReplyRanges : Reply → Type 0
@@ -50,9 +54,6 @@ HasReplyRanges (replies.Stat qnum qbytes sender receiver) =
     IsWord qnum × IsWord qbytes × IsWord sender × IsWord receiver
 HasReplyRanges (replies.All values) = AllByRecursion IsWord values
 HasReplyRanges _ = Unit {0}
-
-abbrev pub HasNameRange : Name → Type 0
-HasNameRange name = IsWord (name_number name)
 
 abbrev pub HasDeedRange : PackedDeed → Type 0
 HasDeedRange deed = HasNameRange deed.name
@@ -102,6 +103,7 @@ HasRanges (frames.Leaving pid parent parent_node) = IsWord pid × IsWord parent 
 HasRanges frames.RecallAll = Unit {0}
 HasRanges (frames.Left parcel) = HasParcelRanges parcel
 HasRanges (frames.ExitTo parcel) = HasParcelRanges parcel
+HasRanges (frames.Cancel asked) = HasAskedRanges asked
 
 -- what has a spelling
 pub record IsFrame (f : Frame) : Type 0 where

@@ -3,12 +3,14 @@ ghost use Rattle.std.specs.Prelude.{ℕ, List, Option};
 ghost use Rattle.pico_base.specs.declared.call.Call.TheVariants as calls;
 ghost use Rattle.frame_bytes.specs.Readers.{Gives, pick, two, three, four, five};
 ghost use Rattle.frame_bytes.specs.Fields.{flag_at, half_at, positive_at, sigarg_at, signed_at, text_at, word_at};
-ghost use Rattle.frame_bytes.specs.Calls.{asked_call_at, asked_rows, last_call_at, set_at, step_at, steps_at};
+ghost use Rattle.frame_bytes.specs.Calls.{asked_call_at, asked_rows, last_call_at, set_at, step_at, steps_at, withdrawal_at};
 
-use crate::fields::{Read, byte, count, flag, half, positive, sig, sigarg, signed, text, word};
+use crate::fields::{
+    Read, byte, count, flag, half, kind, positive, sig, sigarg, signed, text, word,
+};
 use crate::many::{Item, many};
 use crate::writing::{put_flag, put_signed, put_word};
-use pico_base::{Call, Id, Key, Memory, Pid, SemStep, Steps, UnpackFault, Values};
+use pico_base::{Call, Id, Key, Kind, Memory, Name, Pid, SemStep, Steps, UnpackFault, Values};
 use std::alloc::Global;
 
 impl Item for SemStep {
@@ -261,4 +263,23 @@ pub(crate) fn last_call(bytes: &[u8]) -> Read<'_, Call>
         }
         _ => Err(UnpackFault::NotABody),
     }
+}
+
+/// A call that ends a wait at a queue or a set: code 20, and the name where it waits.
+#[tactic(auto, unfolding(crate::specs::Calls::withdrawal_at, crate::specs::Calls::object_at))]
+pub(crate) fn withdrawal(bytes: &[u8]) -> Read<'_, Call>
+    ensures { Gives (λ x. (x.0, x.1.now)) result (withdrawal_at bytes.now) }
+{
+    let (code, rest) = byte(bytes)?;
+    if code != 20 {
+        return Err(UnpackFault::NotABody);
+    }
+    let (kind, rest) = kind(rest)?;
+    let (number, rest) = word(rest)?;
+    let name = match kind {
+        Kind::Proc => return Err(UnpackFault::NotABody),
+        Kind::Msg => Name::Msg(Id(number)),
+        Kind::Sem => Name::Sem(Id(number)),
+    };
+    Ok((Call::Withdraw { name }, rest))
 }

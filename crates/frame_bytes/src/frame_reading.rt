@@ -5,9 +5,9 @@ ghost use Rattle.frame_bytes.specs.Readers.{Gives, pick, two, three, four};
 ghost use Rattle.frame_bytes.specs.Fields.{kind_at, name_at, node_at, positive_at, rise_from, word_at};
 ghost use Rattle.frame_bytes.specs.Calls.{asked_call_at};
 ghost use Rattle.frame_bytes.specs.Replies.{reply_at};
-ghost use Rattle.frame_bytes.specs.Frames.{process_of, are_processes, asked_at, deed_at, deeds_at, frame_at, frame_rows, have_order, parcel_at, vars_at, whole_at};
+ghost use Rattle.frame_bytes.specs.Frames.{process_of, are_processes, asked_at, cancelled_at, deed_at, deeds_at, frame_at, frame_rows, have_order, parcel_at, vars_at, whole_at};
 
-use crate::call_reading::{asked_call, last_call};
+use crate::call_reading::{asked_call, last_call, withdrawal};
 use crate::fields::{Read, byte, half, kind, name_of, named, node, positive, text, word};
 use crate::many::{Item, many};
 use crate::reply_reading::reply;
@@ -176,6 +176,24 @@ pub fn read_asked(alloc: Global, bytes: &[u8]) -> Read<'_, Asked>
     Ok((asked, rest))
 }
 
+/// The same of a withdrawal, as Cancel brings it.
+#[tactic(auto, unfolding(crate::specs::Frames::cancelled_at))]
+fn cancelled(bytes: &[u8]) -> Read<'_, Asked>
+    ensures { Gives (λ x. (x.0, x.1.now)) result (cancelled_at bytes.now) }
+{
+    let (caller, rest) = node(bytes)?;
+    let (ticket, rest) = positive(rest)?;
+    let (pid, rest) = word(rest)?;
+    let (call, rest) = withdrawal(rest)?;
+    let asked = Asked {
+        caller: Node(caller),
+        ticket,
+        pid: Pid(pid),
+        call,
+    };
+    Ok((asked, rest))
+}
+
 fn ask(alloc: Global, bytes: &[u8]) -> Read<'_, Frame>
     ensures { Gives (λ x. (x.0, x.1.now)) result (three positive_at word_at asked_call_at frames.Ask bytes.now) }
 {
@@ -312,6 +330,10 @@ fn frame_fields(alloc: Global, code: u8, bytes: &[u8]) -> Read<'_, Frame>
         18 => {
             let (parcel, rest) = parcel(alloc, bytes)?;
             Ok((Frame::ExitTo { parcel }, rest))
+        }
+        19 => {
+            let (asked, rest) = cancelled(bytes)?;
+            Ok((Frame::Cancel { asked }, rest))
         }
         _ => Err(UnpackFault::NotABody),
     }

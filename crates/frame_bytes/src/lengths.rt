@@ -166,5 +166,6 @@ pub(crate) fn body_len(frame: &Frame) -> usize
         Frame::RecallAll => 1,
         Frame::Left { parcel } => 1 + parcel_len(parcel),
         Frame::ExitTo { parcel } => 1 + parcel_len(parcel),
+        Frame::Cancel { .. } => 1 + 1 + 2 * WORD + 1 + NAME,
     }
 }

@@ -3,8 +3,9 @@
 ghost use Rattle.std.specs.Prelude.{◌≡◌, ◌&&◌, length, nat_lt};
 ghost use Rattle.std.specs.List.{list_all};
 ghost use Rattle.frame_bytes.specs.Fields.{name_number};
+ghost use Rattle.frame_bytes.specs.Calls.{is_object};
 ghost use Rattle.frame_bytes.specs.Frames.{frame_body, max_frame};
-ghost use Rattle.frame_bytes.specs.Limits.{are_deeds, are_vars, has_fields, is_call, is_count, is_deed, is_frame, is_half, is_last_call, is_nonzero, is_parcel, is_reply, is_sigarg, is_text};
+ghost use Rattle.frame_bytes.specs.Limits.{are_deeds, are_vars, has_fields, is_call, is_count, is_deed, is_frame, is_half, is_last_call, is_nonzero, is_parcel, is_reply, is_sigarg, is_text, is_withdrawal};
 
 use crate::frame_reading::{are_processes, have_order};
 use crate::lengths::body_len;
@@ -85,6 +86,26 @@ fn is_last_call(call: &Call) -> bool
 {
     match call {
         Call::Exit { .. } | Call::Killed { .. } => true,
+        _ => false,
+    }
+}
+
+/// Whether the name is one of a queue or a set, where a call may wait.
+fn is_object(name: Name) -> bool
+    ensures { result ≡ is_object name }
+{
+    match name {
+        Name::Proc(_) => false,
+        Name::Msg(_) | Name::Sem(_) => true,
+    }
+}
+
+/// Whether the call ends a wait at a queue or a set.
+fn is_withdrawal(call: &Call) -> bool
+    ensures { result ≡ is_withdrawal call.now }
+{
+    match call {
+        Call::Withdraw { name } => is_object(*name),
         _ => false,
     }
 }
@@ -170,6 +191,7 @@ fn has_fields(frame: &Frame) -> bool
         Frame::Grant { deed } => is_deed(deed),
         Frame::Left { parcel } => is_parcel(parcel),
         Frame::ExitTo { parcel } => is_parcel(parcel),
+        Frame::Cancel { asked } => asked.ticket > 0 && is_withdrawal(&asked.call),
     }
 }
 

@@ -6,7 +6,7 @@ ghost use Rattle.frame_bytes.specs.Fields.{IsHalf, IsNode, IsWord, flag_byte, ha
 ghost use Rattle.frame_bytes.specs.Calls.{call_bytes, steps_field, values_field};
 ghost use Rattle.frame_bytes.specs.Replies.{reply_bytes};
 ghost use Rattle.frame_bytes.specs.Frames.{asked_field, asking, deed_field, deeds_field, frame_body, parcel_field, vars_field};
-ghost use Rattle.frame_bytes.specs.Limits.{are_deeds, are_vars, has_fields, is_call, is_count, is_deed, is_half, is_last_call, is_parcel, is_reply, is_text};
+ghost use Rattle.frame_bytes.specs.Limits.{are_deeds, are_vars, has_fields, is_call, is_count, is_deed, is_half, is_last_call, is_parcel, is_reply, is_text, is_withdrawal};
 ghost use Rattle.frame_bytes.specs.Ranges.{HasAskedRanges, HasAskingRanges, HasCallRanges, HasCheckpointRanges, HasDeedRange, HasNameRange, HasParcelRanges, HasRanges, HasReplyRanges, HasStepRanges, HasValueRanges};
 
 use crate::many::put_many;
@@ -406,6 +406,33 @@ pub fn put_asked(out: &mut Vec<u8>, asked: &Asked) -> Result<(), Memory>
     put_asking(out, asked.ticket, asked.pid, &asked.call)
 }
 
+/// Adds a withdrawal that was asked for, as Cancel brings it.
+fn put_cancelled(out: &mut Vec<u8>, asked: &Asked) -> Result<(), Memory>
+    requires { IsTrue (is_withdrawal asked.now.call) }
+    ensures bytes { OnOk result (out.new.items ≡ out.old.items ++ asked_field asked.now) }
+    ensures fits { OnOk result (HasAskedRanges asked.now) }
+{
+    put_node(out, asked.caller)?;
+    put_word(out, asked.ticket)?;
+    put_word(out, asked.pid.0)?;
+    put_withdrawal(out, &asked.call)
+}
+
+/// Adds a call that ends a wait at a queue or a set.
+fn put_withdrawal(out: &mut Vec<u8>, call: &Call) -> Result<(), Memory>
+    requires { IsTrue (is_withdrawal call.now) }
+    ensures bytes { OnOk result (out.new.items ≡ out.old.items ++ call_bytes call.now) }
+    ensures fits { OnOk result (HasCallRanges call.now) }
+{
+    match call {
+        Call::Withdraw { name } => {
+            out.push(20)?;
+            put_name(out, *name)
+        }
+        _ => unreachable!(),
+    }
+}
+
 fn put_node(out: &mut Vec<u8>, node: Node) -> Result<(), Memory>
     ensures bytes { OnOk result (out.new.items ≡ out.old.items ++ node ∷ []) }
     ensures fits { OnOk result (IsNode node) }
@@ -525,6 +552,10 @@ pub(crate) fn put_frame(out: &mut Vec<u8>, frame: &Frame) -> Result<(), Memory>
         Frame::ExitTo { parcel } => {
             out.push(18)?;
             put_parcel(out, parcel)
+        }
+        Frame::Cancel { asked } => {
+            out.push(19)?;
+            put_cancelled(out, asked)
         }
     }
 }

@@ -1,7 +1,7 @@
 //! Frames at the limits, and just past them.
 use frame_bytes::{encode, is_within_limits};
-use pico_base::{Bytes, Call, Id, Memory, Name, Pid};
-use rpc_frame::{Frame, PackedDeed, PackedDeeds, Parcel};
+use pico_base::{Bytes, Call, Id, Memory, Name, Node, Pid};
+use rpc_frame::{Asked, Frame, PackedDeed, PackedDeeds, Parcel};
 use std::alloc::Global;
 use std::mem::ManuallyDrop;
 use std::test::Fail;
@@ -89,6 +89,27 @@ fn no_frame_asks_for_a_withdrawal(rt: HostRuntime) {
     for name in [Name::Msg(Id(1)), Name::Sem(Id(1)), Name::Proc(Pid(3))] {
         assert!(rt; !may_withdraw(name));
     }
+}
+
+/// Whether a Cancel may end this wait.
+fn may_cancel(ticket: u32, name: Name) -> bool {
+    let asked = Asked {
+        caller: Node(2),
+        ticket,
+        pid: Pid(2),
+        call: Call::Withdraw { name },
+    };
+    let frame = ManuallyDrop::new(Frame::Cancel { asked });
+    is_within_limits(&frame)
+}
+
+/// A script may wait at number 0, which names nothing.
+#[test]
+fn a_cancel_ends_a_wait_at_a_queue_or_a_set(rt: HostRuntime) {
+    assert!(rt; may_cancel(1, Name::Msg(Id(1))));
+    assert!(rt; may_cancel(1, Name::Sem(Id(0))));
+    assert!(rt; !may_cancel(1, Name::Proc(Pid(3))));
+    assert!(rt; !may_cancel(0, Name::Msg(Id(1))));
 }
 
 /// What leaves has 17 bytes beside its deeds, and each of these has 9 beside its body.

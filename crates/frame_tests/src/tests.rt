@@ -11,7 +11,7 @@ use std::test::Fail;
 type Kept = ManuallyDrop<Joiner>;
 
 /// Frames as they are printed, and their bytes: values of several parts would be dear here.
-static FRAMES: [(&str, &[u8]); 7] = [
+static FRAMES: [(&str, &[u8]); 8] = [
     ("NotOwner { ticket: 7 }", b"\0\0\0\x05\x06\0\0\0\x07"),
     ("RecallAll", b"\0\0\0\x01\x10"),
     (
@@ -36,6 +36,10 @@ static FRAMES: [(&str, &[u8]); 7] = [
     (
         "Answer { ticket: 3, reply: Fail(Enomsg) }",
         b"\0\0\0\x07\x05\0\0\0\x03\x05\x06",
+    ),
+    (
+        "Cancel { asked: Asked { caller: Node(2), ticket: 3, pid: Pid(2), call: Withdraw { name: Msg(Id(1)) } } }",
+        b"\0\0\0\x10\x13\x02\0\0\0\x03\0\0\0\x02\x14\x02\0\0\0\x01",
     ),
 ];
 
@@ -120,11 +124,11 @@ fn refuses(alloc: Global, bytes: &[u8], fault: FrameFault) -> bool {
 
 static TOO_LONG: [&[u8]; 2] = [b"\0\x04\0\x01", b"\xff\xff\xff\xff\0"];
 
-static NOT_FRAMES: [&[u8]; 18] = [
-    // a length 0, a kind 0 and a kind 19
+static NOT_FRAMES: [&[u8]; 22] = [
+    // a length 0, a kind 0 and a kind 20
     b"\0\0\0\0",
     b"\0\0\0\x01\0",
-    b"\0\0\0\x01\x13",
+    b"\0\0\0\x01\x14",
     // one byte too few
     b"\0\0\0\x04\x06\0\0\0",
     // ticket 0, node 0, node 33, and name number 0
@@ -132,7 +136,7 @@ static NOT_FRAMES: [&[u8]; 18] = [
     b"\0\0\0\x07\x0b\x02\0\0\0\x01\0",
     b"\0\0\0\x07\x0b\x02\0\0\0\x01\x21",
     b"\0\0\0\x07\x0b\x02\0\0\0\0\x02",
-    // one byte behind the last field: of NotOwner, RecallAll, Suggest, Lease, a receive, a send, and an answer
+    // one byte behind the last field: of NotOwner, RecallAll, Suggest, Lease, a receive, a send, an answer, a Cancel
     b"\0\0\0\x06\x06\0\0\0\x07\0",
     b"\0\0\0\x02\x10\0",
     b"\0\0\0\x08\x0b\x02\0\0\0\x01\x02\0",
@@ -140,10 +144,15 @@ static NOT_FRAMES: [&[u8]; 18] = [
     b"\0\0\0\x19\x01\0\0\0\x03\0\0\0\x02\x04\0\0\0\x01\0\0\0\0\0\0\0\x08\0\x01\0",
     b"\0\0\0\x1a\x01\0\0\0\x02\0\0\0\x02\x03\0\0\0\x01\0\0\0\x01\0\0\0\x02hi\x01\0",
     b"\0\0\0\x08\x05\0\0\0\x03\x05\x06\0",
+    b"\0\0\0\x11\x13\x02\0\0\0\x03\0\0\0\x02\x14\x02\0\0\0\x01\0",
     // a flag of 2: either one of a receive, and that of a send
     b"\0\0\0\x18\x01\0\0\0\x03\0\0\0\x02\x04\0\0\0\x01\0\0\0\0\0\0\0\x08\x02\x01",
     b"\0\0\0\x18\x01\0\0\0\x03\0\0\0\x02\x04\0\0\0\x01\0\0\0\0\0\0\0\x08\0\x02",
     b"\0\0\0\x19\x01\0\0\0\x02\0\0\0\x02\x03\0\0\0\x01\0\0\0\x01\0\0\0\x02hi\x02",
+    // an Ask of a withdrawal, a Cancel of an exit, and a Cancel of a wait at a process
+    b"\0\0\0\x0f\x01\0\0\0\x03\0\0\0\x02\x14\x02\0\0\0\x01",
+    b"\0\0\0\x0d\x13\x02\0\0\0\x03\0\0\0\x02\x12\0\0",
+    b"\0\0\0\x10\x13\x02\0\0\0\x03\0\0\0\x02\x14\x01\0\0\0\x01",
 ];
 
 #[test]

@@ -90,6 +90,11 @@ pub enum Frame {
     ExitTo {
         parcel: Parcel,
     },
+    /// From a node to the leader, or from the leader to where the call waits: a signal interrupts this call, which is
+    /// under way at its caller under this ticket. `asked.call` is a `Withdraw` of the queue or set where it waits.
+    Cancel {
+        asked: Asked,
+    },
 }
 
 /// Frames, in order.
