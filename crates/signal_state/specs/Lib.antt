@@ -1,3 +1,4 @@
+pub mod Arriving
 pub mod Held
 pub mod Reading
 pub mod Spelling

@@ -4,6 +4,7 @@ ghost use Rattle.std.specs.Prelude.{◌≡◌, ◌↔◌, Some, Ok, Err, IfSome,
 ghost use Rattle.kernel_model.specs.Row.{is_ign};
 ghost use Rattle.kernel_model.specs.Signals.{Signals as State, act_on, arrive, deliver, discards, inherit, is_kill, new_mask, new_signals, raise, with_mask};
 ghost use Rattle.pico_base.specs.Signal.{at, put_at};
+ghost use Rattle.signal_state.specs.Arriving.{arrives};
 ghost use Rattle.signal_state.specs.Held.{AreHeld, is_kept};
 ghost use Rattle.signal_state.specs.Spelling.{HasBytes, signal_bytes};
 
@@ -172,6 +173,17 @@ impl Signals {
         ensures { result ≡ self.now.doom }
     {
         self.doom
+    }
+
+    /// Whether the signal arrives as soon as it is raised: the process isn't doomed, and the signal is KILL, or neither
+    /// discarded nor masked.
+    pub fn arrives(&self, sig: Sig) -> bool
+        ensures { result ≡ arrives self.now sig }
+    {
+        if self.doom.is_some() {
+            return false;
+        }
+        is_kill(sig) || (!discards(self.actions.get(sig), sig) && !self.mask.has(sig))
     }
 
     /// Whether the action for the signal is to ignore it.

@@ -1,11 +1,14 @@
-pub mod Slots
-pub mod Heads
-pub mod Dense
-pub mod Packing
-pub mod Messages
-pub mod Again
-pub mod Receiving
+pub mod Settling
 pub mod Selected
-pub mod Copied
+pub mod Slots
+pub mod Receiving
+pub mod ReceiveLemmas
+pub mod Parking
+pub mod Taking
+pub mod BodyLaws
+pub mod Packing
+pub mod Spelling
 pub mod Bodies
-mod Examples
+pub mod Parts
+pub mod Copying
+pub mod Passing

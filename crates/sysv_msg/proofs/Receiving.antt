@@ -1,16 +1,24 @@
 -- What a receive gives for the place that was selected, and that the queue keeps its limits.
 use Rattle.std.proofs.Common.{◌≡◌, ℕ, zero, suc, ◌+◌, ◌-◌, Bool, true, false, ◌||◌, ℤ, List, [], ◌∷◌, length, take, Some, Ok, Err, refl, ap, arith}
-use Rattle.std.specs.Prelude.{IsOk, nat_le, remove, slice_get}
+use Rattle.std.specs.List.{AllByRecursion}
+use Rattle.std.specs.Prelude.{nat_le, nat_lt, remove, slice_get}
+use Rattle.std.proofs.lemmas.Bool.{lt-ltb}
+use Rattle.std.proofs.lemmas.Option.{slice_get_within}
 use Rattle.std.proofs.lemmas.List.Sums.{sum_by-cons}
 use Rattle.pico_base.specs.declared.reply.Errno.TheVariants.{E2big}
 use Rattle.kernel_model.specs.Queue.{Message, Queue, select, receive, bytes_of}
 use Rattle.sysv_msg.specs.Limits.{IsSendable, IsWithinLimits}
-use Rattle.sysv_msg.proofs.Heads.{each_removed}
+use Rattle.sysv_msg.specs.Linked.{messages_of, message_of, IsSelected}
+use Rattle.sysv_msg.specs.Going.{is_inside}
+use Rattle.index_links.specs.Nodes.{Node}
 
--- a queue by its fields
-abbrev pub queue_of : List Message → ℕ → ℕ → ℕ → Queue
-queue_of messages qbytes sender receiver =
-    record { messages = messages; qbytes = qbytes; last_sender = sender; last_receiver = receiver }
+-- what holds of each holds of each that is left
+pub each_removed : {X : Type 0} (P : X → Type 0) (xs : List X) (place : ℕ) → AllByRecursion P xs
+    → AllByRecursion P (remove xs place)
+each_removed P [] zero h = h
+each_removed P [] (suc place) h = h
+each_removed P (x ∷ xs) zero h = h.1
+each_removed P (x ∷ xs) (suc place) h = (h.0, each_removed P xs place h.1)
 
 -- a message that fits, or may be cut, is received
 pub receive_taken : (q : Queue) (pid : ℕ) (class : ℤ) (size : ℕ) (noerror : Bool) (place : ℕ) (m : Message)
@@ -24,13 +32,6 @@ pub receive_taken : (q : Queue) (pid : ℕ) (class : ℤ) (size : ℕ) (noerror 
           record m { text = take size m.text };
     })
 receive_taken q pid class size noerror place m rest selected there fits left = rw (selected, there, fits, left) refl
-
--- so a receive of one is answered
-pub receive_answered : (q : Queue) (pid : ℕ) (class : ℤ) (size : ℕ) (noerror : Bool) (place : ℕ) (m : Message)
-    → select q.messages class ≡ Some place → slice_get q.messages place ≡ Some m
-    → (nat_le (length m.text) size || noerror) ≡ true → IsOk (receive q pid class size noerror)
-receive_answered q pid class size noerror place m selected there fits =
-    rw (receive_taken q pid class size noerror place m (remove q.messages place) selected there fits refl) refl
 
 -- one that is too long, and may not be cut, is refused
 pub receive_refused : (q : Queue) (pid : ℕ) (class : ℤ) (size : ℕ) (noerror : Bool) (place : ℕ) (m : Message)
@@ -80,3 +81,16 @@ within_removed q place pid bytes m rest there left count limits =
         each = each_removed IsSendable q.messages place limits.each;
       },
     )
+
+-- a place that has a message is inside
+pub inside : (ms : List Message) (place : ℕ) (m : Message) → slice_get ms place ≡ Some m
+    → nat_lt place (length ms) ≡ true
+inside ms place m there = lt-ltb place (length ms) (slice_get_within ms place m there)
+
+-- a receive finds a message where a slot was found
+pub some_inside : (class : ℤ) (q : Queue) (ns : List (Node (List ℕ))) (slot : ℕ) → q.messages ≡ messages_of ns
+    → IsSelected class ns slot → is_inside q (select q.messages class) ≡ true
+some_inside class q ns slot same s =
+    let chosen : select q.messages class ≡ Some s.place = rw same s.selected in
+    let there : slice_get q.messages s.place ≡ Some (message_of s.node) = rw same s.there in
+    rw chosen (inside q.messages s.place (message_of s.node) there)

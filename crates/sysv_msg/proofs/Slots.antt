@@ -1,17 +1,16 @@
 -- Messages by their slots: what a slot names, and which slot a receive asks for.
-use Rattle.std.proofs.Common.{◌≡◌, ◌≢◌, ℕ, zero, suc, ◌+◌, ◌≤◌, true, false, ltb, ℤ, pos, negsuc, List, [], ◌∷◌, ◌++◌, length, Option, Some, None, option_map, refl, sym, ap, subst, ◌∙◌, inl, inr, w32, arith}
-use Rattle.std.specs.Prelude.{FitsSigned, IsSome, MatchOption, remove, slice_get}
+use Rattle.std.proofs.Common.{◌≡◌, ◌≢◌, ℕ, zero, suc, ◌+◌, true, false, ltb, ℤ, pos, negsuc, List, [], ◌∷◌, ◌++◌, length, Option, Some, None, option_map, refl, sym, ap, subst, ◌∙◌, inl, inr, w32, arith}
+use Rattle.std.specs.Prelude.{FitsSigned, MatchOption, remove, slice_get}
 use Rattle.std.specs.List.{AllByRecursion, position_from}
 use Rattle.std.specs.Ordering.{int_eq}
-use Rattle.std.proofs.lemmas.Bool.{cases_Bool, cases_eq, eq-eqb, ne_eqb}
+use Rattle.std.proofs.lemmas.Bool.{cases_Bool, eq-eqb, ne_eqb}
 use Rattle.std.proofs.lemmas.Bool.Decides.{nat_tests}
 use Rattle.std.proofs.lemmas.Iterator.Adapters.{position_from-zero}
 use Rattle.index_links.specs.Chains.{LackSlot, HaveOwnSlots}
 use Rattle.index_links.specs.Nodes.{Node, IsThere, node_at, without, first_slot, first_slot_of, slot_after, least_upto, lower_of}
 use Rattle.kernel_model.specs.Queue.{Message, first_of, first_of_some, lowest_upto, select}
 use Rattle.kernel_model.specs.Queue as definition
-use Rattle.sysv_msg.specs.declared.store.Span.{Span}
-use Rattle.sysv_msg.specs.Heads.{Head, IsWithin, text_in, message_in, messages_in, node_in, nodes_in}
+use Rattle.body_fields.proofs.Fields.{some_is}
 use Rattle.sysv_msg.specs.Limits.{IsSendable}
 use Rattle.sysv_msg.specs.Linked.{message_of, messages_of, slot_for, slot_of_some, IsSelected}
 
@@ -218,76 +217,6 @@ none_selected (negsuc n) ns is =
         ap (λ (o : Option ℤ). first_of_some o (messages_of ns)) (lowest_agree (pos (suc n)) ns ∙ e)
         ∙ none_first class ns is
 
--- ---- messages whose texts lie in a buffer
-
--- the nodes that are shown are these messages
-pub messages_there : (texts : List ℕ) (heads : List Head)
-    → messages_of (nodes_in texts heads) ≡ messages_in texts heads
-messages_there texts [] = refl
-messages_there texts (h ∷ heads) = ap (λ (ms : List Message). message_in texts h ∷ ms) (messages_there texts heads)
-
--- as many as are kept
-pub length_there : (texts : List ℕ) (heads : List Head) → length heads ≡ length (messages_of (nodes_in texts heads))
-length_there texts [] = refl
-length_there texts (h ∷ heads) = ap suc (length_there texts heads)
-
--- the node of a slot is the one that is kept for it
-pub node_there : (texts : List ℕ) (slot : ℕ) (heads : List Head)
-    → node_at slot (nodes_in texts heads) ≡ option_map (node_in texts) (node_at slot heads)
-node_there texts slot [] = refl
-node_there texts slot (h ∷ heads) =
-    elim (cases_eq h.slot slot) [
-      | inl same ↦ rw (eq-eqb h.slot slot same) refl
-      | inr other ↦ rw (ne_eqb h.slot slot other) (node_there texts slot heads)
-    ]
-
--- without a slot, the same is kept and shown
-pub without_there : (texts : List ℕ) (slot : ℕ) (heads : List Head)
-    → without slot (nodes_in texts heads) ≡ nodes_in texts (without slot heads)
-without_there texts slot [] = refl
-without_there texts slot (h ∷ heads) =
-    elim (cases_eq h.slot slot) [
-      | inl same ↦ rw (eq-eqb h.slot slot same) refl
-      | inr other ↦
-          rw (ne_eqb h.slot slot other)
-          (ap (λ (ns : List (Node (List ℕ))). node_in texts h ∷ ns) (without_there texts slot heads))
-    ]
-
-lack_there : (texts : List ℕ) (slot : ℕ) (heads : List Head) → LackSlot slot heads
-    → LackSlot slot (nodes_in texts heads)
-lack_there texts slot [] lack = tt
-lack_there texts slot (h ∷ heads) lack = (lack.0, lack_there texts slot heads lack.1)
-
--- what is shown has slots of its own where what is kept has
-pub own_there : (texts : List ℕ) (heads : List Head) → HaveOwnSlots heads → HaveOwnSlots (nodes_in texts heads)
-own_there texts [] own = tt
-own_there texts (h ∷ heads) own = (lack_there texts h.slot heads own.0, own_there texts heads own.1)
-
-first_there : (texts : List ℕ) (class : ℤ) (heads : List Head)
-    → first_slot_of class (nodes_in texts heads) ≡ first_slot_of class heads
-first_there texts class [] = refl
-first_there texts class (h ∷ heads) = rw (first_there texts class heads) refl
-
-least_there : (texts : List ℕ) (bound : ℤ) (heads : List Head)
-    → least_upto bound (nodes_in texts heads) ≡ least_upto bound heads
-least_there texts bound [] = refl
-least_there texts bound (h ∷ heads) = rw (least_there texts bound heads) refl
-
-some_there : (texts : List ℕ) (o : Option ℤ) (heads : List Head)
-    → slot_of_some o (nodes_in texts heads) ≡ slot_of_some o heads
-some_there texts None heads = refl
-some_there texts (Some class) heads = first_there texts class heads
-
--- which slot a receive asks for is told by what is kept
-pub slot_there : (texts : List ℕ) (class : ℤ) (heads : List Head)
-    → slot_for class (nodes_in texts heads) ≡ slot_for class heads
-slot_there texts (pos zero) [] = refl
-slot_there texts (pos zero) (h ∷ heads) = refl
-slot_there texts (pos (suc n)) heads = first_there texts (pos (suc n)) heads
-slot_there texts (negsuc n) heads =
-    ap (λ (o : Option ℤ). slot_of_some o (nodes_in texts heads)) (least_there texts (pos (suc n)) heads)
-    ∙ some_there texts (least_upto (pos (suc n)) heads) heads
-
 -- what is told of the slot that a receive asks for
 pub told_selected : (o : Option ℕ) (class : ℤ) (ns : List (Node (List ℕ))) → HaveOwnSlots ns → o ≡ slot_for class ns
     → MatchOption o (select (messages_of ns) class ≡ None) (λ slot. IsSelected class ns slot)
@@ -295,69 +224,27 @@ told_selected None class ns own is = none_selected class ns (sym is)
 told_selected (Some slot) class ns own is = slot_selected class ns slot own (sym is)
 
 -- the types of messages fit where the messages can be sent
-pub fits_there : (texts : List ℕ) (heads : List Head) → AllByRecursion IsSendable (messages_of (nodes_in texts heads))
-    → AllByRecursion (λ (h : Head). FitsSigned w32 h.class) heads
-fits_there texts [] each = tt
-fits_there texts (h ∷ heads) each = (each.0.fits, fits_there texts heads each.1)
+pub fits_of : (ns : List (Node (List ℕ))) → AllByRecursion IsSendable (messages_of ns)
+    → AllByRecursion (λ (n : Node (List ℕ)). FitsSigned w32 n.class) ns
+fits_of [] each = tt
+fits_of (n ∷ ns) each = (each.0.fits, fits_of ns each.1)
 
--- a slot that is there in the messages is there in what is kept of them
-pub is_there : (texts : List ℕ) (slot : ℕ) (heads : List Head) → IsThere slot (nodes_in texts heads)
-    → IsThere slot heads
-is_there texts slot heads there =
-    some (node_at slot heads) (subst (λ (o : Option (Node (List ℕ))). IsSome o) (node_there texts slot heads) there)
-  where
-    some : (o : Option Head) → IsSome (option_map (node_in texts) o) → IsSome o
-    some None h = h
-    some (Some head) h = refl
+-- a message that comes last is the last node's
+pub messages_behind : (ns : List (Node (List ℕ))) (n : Node (List ℕ))
+    → messages_of (ns ++ n ∷ []) ≡ messages_of ns ++ message_of n ∷ []
+messages_behind ns n = messages_join ns (n ∷ [])
 
--- the text that is kept for a slot lies within the buffer
-pub within_there : (texts : List ℕ) (slot : ℕ) (heads : List Head) (span : Span)
-    → AllByRecursion (IsWithin texts) heads
-    → option_map (λ (h : Head). h.value) (node_at slot heads) ≡ Some span → span.start + span.len ≤ length texts
-within_there texts slot [] span within is = absurd (cc)
-within_there texts slot (h ∷ heads) span within is =
-    elim (cases_eq h.slot slot) [
-      | inl same ↦
-          let one : Some h.value ≡ Some span = rw (eq-eqb h.slot slot same) at is in
-          let value : h.value ≡ span = cc in
-          subst (λ (s : Span). s.start + s.len ≤ length texts) value within.0
-      | inr other ↦ within_there texts slot heads span within.1 (rw (ne_eqb h.slot slot other) at is)
-    ]
+-- what a slot names is told by its node
+pub node_value : {V : Type 0} (slot : ℕ) (ns : List (Node V)) (n : Node V) (v : V) → node_at slot ns ≡ Some n
+    → option_map (λ (m : Node V). m.value) (node_at slot ns) ≡ Some v → n.value ≡ v
+node_value {V} slot ns n v found is =
+    some_is n.value v (sym (ap (option_map (λ (m : Node V). m.value)) found) ∙ is)
 
--- the message that is kept for a slot, by its type and its text's place
-pub message_there : (texts : List ℕ) (slot : ℕ) (heads : List Head) (class : ℤ) (span : Span)
-    → option_map (λ (h : Head). h.class) (node_at slot heads) ≡ Some class
-    → option_map (λ (h : Head). h.value) (node_at slot heads) ≡ Some span
-    → option_map message_of (node_at slot (nodes_in texts heads))
-    ≡ Some (record { class = class; text = text_in texts span })
-message_there texts slot heads class span of_class value =
-    ap (option_map message_of) (node_there texts slot heads) ∙ one (node_at slot heads) of_class value
-  where
-    one : (o : Option Head) → option_map (λ (h : Head). h.class) o ≡ Some class
-        → option_map (λ (h : Head). h.value) o ≡ Some span
-        → option_map message_of (option_map (node_in texts) o)
-        ≡ Some (record { class = class; text = text_in texts span })
-    one None c v = absurd (cc)
-    one (Some h) c v =
-        let same_class : h.class ≡ class = cc in
-        let same_value : h.value ≡ span = cc in
-        rw (same_class, same_value) refl
+pub node_class : {V : Type 0} (slot : ℕ) (ns : List (Node V)) (n : Node V) (class : ℤ) → node_at slot ns ≡ Some n
+    → option_map (λ (m : Node V). m.class) (node_at slot ns) ≡ Some class → n.class ≡ class
+node_class {V} slot ns n class found is =
+    some_is n.class class (sym (ap (option_map (λ (m : Node V). m.class)) found) ∙ is)
 
--- what holds of each holds of each that is left
-pub each_left : {V : Type 0} (P : Node V → Type 0) (slot : ℕ) (ns : List (Node V)) → AllByRecursion P ns
-    → AllByRecursion P (without slot ns)
-each_left P slot [] each = tt
-each_left {V} P slot (n ∷ ns) each =
-    elim (cases_eq n.slot slot) [
-      | inl same ↦ rw (eq-eqb n.slot slot same) each.1
-      | inr other ↦ rw (ne_eqb n.slot slot other) (each.0, each_left P slot ns each.1)
-    ]
-
--- without its first the list is its rest
-pub without_first : {V : Type 0} (n : Node V) (ns : List (Node V)) → without n.slot (n ∷ ns) ≡ ns
-without_first n ns = rw (eq-eqb n.slot n.slot refl) refl
-
--- the message in the slot that was selected, at its place
-pub at_slot : (class : ℤ) (ns : List (Node (List ℕ))) (slot : ℕ) (m : Message) → (s : IsSelected class ns slot)
-    → option_map message_of (node_at slot ns) ≡ Some m → slice_get (messages_of ns) s.place ≡ Some m
-at_slot class ns slot m s is = s.there ∙ (ap (option_map message_of) (sym s.found) ∙ is)
+-- the slot of a message that is selected is there
+pub is_there : (class : ℤ) (ns : List (Node (List ℕ))) (slot : ℕ) → IsSelected class ns slot → IsThere slot ns
+is_there class ns slot s = rw s.found refl

@@ -1,8 +1,8 @@
-pub mod Body
-pub mod Dense
-pub mod Heads
 pub mod Limits
 pub mod Linked
-pub mod Measured
-pub mod Reading
 pub mod Refusals
+pub mod Going
+pub mod Stored
+pub mod Body
+pub mod Reading
+pub mod Passing

@@ -1,12 +1,19 @@
-//! A System V message queue: messages of a type and a text are sent last, and received first or by their type.
+//! A System V message queue at which callers wait: messages of a type and a text are sent last, and received first or
+//! by their type; a send for which there is no room, and a receive for which there is no message, waits until a change
+//! of the queue lets it go on.
 #![tactic(auto)]
 
-mod holes;
+mod awaiting;
+mod calls;
+mod fault;
+mod links;
 mod message;
 mod pack;
 mod queue;
+mod reading;
 mod store;
 mod unpack;
 
+pub use fault::SendFault;
 pub use message::Message;
-pub use queue::{CallFault, Queue, SendFault};
+pub use queue::Queue;

@@ -1,33 +1,68 @@
 //! A queue written as bytes.
-ghost use Rattle.std.specs.Prelude.{◌≡◌, ◌≤◌, ◌-◌, ◌++◌, drop, length, OnOk, IfOk};
-ghost use Rattle.std.specs.List.{flat_map, AllByRecursion};
-ghost use Rattle.kernel_model.specs.Queue.{bytes_of};
-ghost use Rattle.sysv_msg.specs.Body.{message_field, IsBodyOf};
-ghost use Rattle.sysv_msg.specs.Heads.{IsWithin, messages_in};
+ghost use Rattle.std.specs.Prelude.{◌≡◌, ◌≤◌, ◌<◌, ◌^◌, ◌∷◌, ◌++◌, [], IfOk, IfSome, OnOk};
+ghost use Rattle.std.specs.List.{flat_map};
+ghost use Rattle.frame_bytes.specs.Fields.{word};
+ghost use Rattle.sysv_msg.specs.Body.{IsBodyOf, message_field, messages_field, numbers_field, queue_code};
+ghost use Rattle.sysv_msg.specs.Limits.{AreParked, IsWithinLimits};
 ghost use Rattle.sysv_msg.specs.Linked.{messages_of};
 
 use crate::Queue;
-use crate::store::{FRONT, Messages, Span, push_message, text_at};
+use crate::awaiting::Awaiting;
+use crate::reading::CODE;
+use crate::store::Store;
 use index_links::Links;
 use pico_base::{Bytes, Memory};
-use std::alloc::Global;
+use waiter_fields::put_waiters;
 
-/// The code of a queue among the bodies.
-pub(crate) const CODE: u8 = 4;
-
-/// So many of the last bytes.
-fn last_of(texts: &[u8], size: usize) -> &[u8]
-    requires { size ≤ length texts.now }
-    ensures { result.now ≡ drop (length texts.now - size) texts.now }
+/// The number, where it has 32 bits.
+fn short_of(number: usize) -> Option<u32>
+    ensures { IfSome result (λ short. short ≡ number) }
 {
-    texts.split_at(texts.len() - size).1
+    if number > u32::MAX as usize {
+        return None;
+    }
+    Some(number as u32)
+}
+
+/// Adds a number at the end.
+fn push_word(out: &mut Vec<u8>, number: u32) -> Result<(), Memory>
+    ensures bytes { OnOk result (out.new.items ≡ out.old.items ++ word number) }
+    ensures fits { OnOk result (number < 2 ^ 32) }
+{
+    out.extend_from_slice(&number.to_be_bytes())?;
+    Ok(())
+}
+
+/// Adds the code and a queue's numbers at the end.
+fn push_front(out: &mut Vec<u8>, qbytes: u32, sender: u32, receiver: u32) -> Result<(), Memory>
+    ensures bytes { OnOk result
+        (out.new.items ≡ out.old.items ++ queue_code ∷ (word qbytes ++ (word sender ++ word receiver))) }
+    ensures sender { OnOk result (sender < 2 ^ 32) }
+    ensures receiver { OnOk result (receiver < 2 ^ 32) }
+{
+    out.push(CODE)?;
+    push_word(out, qbytes)?;
+    push_word(out, sender)?;
+    push_word(out, receiver)?;
+    Ok(())
+}
+
+/// Adds a message at the end: its type, the length of its text, and the text.
+fn push_message(out: &mut Vec<u8>, class: i32, text: &[u8]) -> Result<(), Memory>
+    ensures { OnOk result (out.new.items ≡ out.old.items ++ message_field (record { class = class; text = text.now })) }
+{
+    let Some(len) = short_of(text.len()) else {
+        return Err(Memory);
+    };
+    out.extend_from_slice(&class.to_be_bytes())?;
+    out.extend_from_slice(&len.to_be_bytes())?;
+    out.extend_from_slice(text)?;
+    Ok(())
 }
 
 /// Adds messages at the end, one by one.
-fn push_linked(links: &Links<Span>, texts: &[u8], out: &mut Vec<u8>) -> Result<(), Memory>
-    requires { AllByRecursion (IsWithin texts.now) links.now.nodes }
-    ensures { OnOk result
-        (out.new.items ≡ out.old.items ++ flat_map message_field (messages_in texts.now links.now.nodes)) }
+fn push_linked(links: &Links<Bytes>, out: &mut Vec<u8>) -> Result<(), Memory>
+    ensures { OnOk result (out.new.items ≡ out.old.items ++ flat_map message_field (messages_of links.now.nodes)) }
 {
     links.have_own_slots();
     let mut at = links.first();
@@ -35,60 +70,66 @@ fn push_linked(links: &Links<Span>, texts: &[u8], out: &mut Vec<u8>) -> Result<(
         let Some(slot) = at else {
             return Ok(());
         };
-        let text = text_at(texts, *links.value(slot));
-        push_message(out, links.class(slot), text)?;
+        push_message(out, links.class(slot), links.value(slot).as_slice())?;
         at = links.next(slot);
     }
     Ok(())
 }
 
-impl Messages {
-    /// How many bytes the messages' packed form has, of which so many are their texts'.
-    fn size(&self, bytes: usize) -> usize
-        requires texts { bytes ≡ bytes_of (messages_of self.now) }
-        requires few { length (messages_of self.now) ≤ 1024 }
-        requires short { bytes ≤ 16384 }
-        ensures size { result ≡ length (flat_map message_field (messages_of self.now)) }
-        ensures small { result ≤ 24576 }
+impl Store {
+    /// How many bytes the queue's own fields have, with the code.
+    fn size(&self) -> usize
+        ensures { result ≤ 32768 }
     {
-        FRONT * self.len() as usize + bytes
+        15 + 8 * self.messages.len() as usize + self.bytes
     }
 
-    /// Adds the messages at the end, whose packed form has so many bytes.
-    fn push_all(&self, out: &mut Vec<u8>, size: usize) -> Result<(), Memory>
-        requires { size ≡ length (flat_map message_field (messages_of self.now)) }
-        ensures { OnOk result (out.new.items ≡ out.old.items ++ flat_map message_field (messages_of self.now)) }
+    /// Adds the code and the queue's numbers at the end.
+    fn push_numbers(&self, out: &mut Vec<u8>) -> Result<(), Memory>
+        ensures bytes { OnOk result (out.new.items ≡ out.old.items ++ queue_code ∷ numbers_field self.now.queue) }
+        ensures sender { OnOk result (self.now.queue.last_sender < 2 ^ 32) }
+        ensures receiver { OnOk result (self.now.queue.last_receiver < 2 ^ 32) }
     {
-        if !self.is_dense {
-            return self.push_each(out);
-        }
-        out.extend_from_slice(last_of(&self.texts, size))?;
+        push_front(out, self.qbytes, self.last_sender.0, self.last_receiver.0)
+    }
+
+    /// Adds the messages at the end, behind their count.
+    fn push_messages(&self, out: &mut Vec<u8>) -> Result<(), Memory>
+        ensures bytes { OnOk result (out.new.items ≡ out.old.items ++ messages_field self.now.queue.messages) }
+        ensures limits { OnOk result (IsWithinLimits self.now.queue) }
+    {
+        out.extend_from_slice(&(self.messages.len() as u16).to_be_bytes())?;
+        push_linked(&self.messages, out)?;
         Ok(())
     }
+}
 
-    /// Adds the messages at the end, one by one.
-    pub(crate) fn push_each(&self, out: &mut Vec<u8>) -> Result<(), Memory>
-        ensures { OnOk result (out.new.items ≡ out.old.items ++ flat_map message_field (messages_of self.now)) }
+impl Awaiting {
+    /// Adds the packed form at the end.
+    fn push_onto(&self, out: &mut Vec<u8>) -> Result<(), Memory>
+        requires parked { AreParked self.now }
+        requires nothing { out.old.items ≡ [] }
+        ensures { OnOk result (IsBodyOf self.now out.new.items) }
     {
-        push_linked(&self.links, &self.texts, out)
+        out.reserve(self.store.size() + 1)?;
+        self.store.push_numbers(out)?;
+        self.store.push_messages(out)?;
+        put_waiters(self.allocator(), out, self.waiters.as_slice())?;
+        Ok(())
     }
 }
 
 impl Queue {
     /// The queue as bytes, which `unpack` makes into an equal queue. A queue has one spelling: 4, `msg_qbytes` in
-    /// 4 bytes, the last sender and the last receiver in 4 each, the count of messages in 2, and each message as
-    /// its type in 4 bytes, the length of its text in 4, and the text. Numbers are big-endian.
-    pub fn pack(&self, alloc: Global) -> Result<Bytes, Memory>
+    /// 4 bytes, the last sender and the last receiver in 4 each, the count of messages in 2, each message as its type
+    /// in 4 bytes, the length of its text in 4, and the text; and those who wait, as `waiter_fields` has them. Numbers
+    /// are big-endian.
+    pub fn pack(&self) -> Result<Bytes, Memory>
         ensures { IfOk result (λ bytes. IsBodyOf self.now bytes) }
     {
-        let size = self.messages.size(self.bytes);
-        let mut out = Vec::with_capacity(alloc, 15 + size)?;
-        out.push(CODE)?;
-        out.extend_from_slice(&self.qbytes.to_be_bytes())?;
-        out.extend_from_slice(&self.last_sender.0.to_be_bytes())?;
-        out.extend_from_slice(&self.last_receiver.0.to_be_bytes())?;
-        out.extend_from_slice(&(self.messages.len() as u16).to_be_bytes())?;
-        self.messages.push_all(&mut out, size)?;
+        let alloc = self.awaiting.allocator();
+        let mut out = Vec::new(alloc);
+        self.awaiting.push_onto(&mut out)?;
         Ok(Bytes::from_vec(out))
     }
 }

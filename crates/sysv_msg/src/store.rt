@@ -1,225 +1,277 @@
-//! The messages of a queue as they are kept: each linked by arrival and by type, and the texts in one buffer.
-ghost use Rattle.std.specs.Prelude.{◌≡◌, ℤ, pos, ◌-ℤ◌, ◌<ℤ◌, ◌<◌, ◌^◌, ◌≤◌, ◌+◌, ◌∷◌, ◌++◌, [], Some, IfOk, IfSome, OnOk, OnErr, MatchOption, IsTrue, true, FitsSigned, int_le, option_map, length};
-ghost use Rattle.std.specs.Int.{w32, to_be_bytes, cast_unsigned};
-ghost use Rattle.std.specs.List.{AllByRecursion};
-ghost use Rattle.index_links.specs.Nodes.{IsThere, node_at, without, first_slot};
-ghost use Rattle.kernel_model.specs.Queue as definition;
-ghost use Rattle.sysv_msg.specs.Body.{message_field};
-ghost use Rattle.sysv_msg.specs.Heads.{text_in};
-ghost use Rattle.sysv_msg.specs.Limits.{IsSendable};
-ghost use Rattle.sysv_msg.specs.Linked.{message_of, messages_of, slot_for, IsSelected};
+//! The messages of a queue and its numbers, without those who wait.
+ghost use Rattle.std.specs.Prelude.{◌≡◌, ◌≤◌, ◌+◌, ◌∷◌, ◌++◌, [], ◌&&◌, ◌||◌, true, is_some, nat_le, nat_lt, length, take, ℕ, List, MatchOption, MatchResult, Ok, Err, Some, IsOk, OnOk};
+ghost use Rattle.kernel_model.specs.Queue.{empty_queue, bytes_in, max_messages, send, receive, set_qbytes, stat};
+ghost use Rattle.answer_laws.specs.Answers.{done_reply};
+ghost use Rattle.waiting_model.specs.Waiters.{attempt};
+ghost use Rattle.waiting_model.specs.Queue.{try_queue};
+ghost use Rattle.sysv_msg.specs.Linked.{messages_of};
+ghost use Rattle.sysv_msg.specs.Going.{can_send, can_receive, reply_of_message};
 
-use index_links::{Links, Slot};
-use pico_base::Memory;
+use crate::Message;
+use crate::links::selected;
+use index_links::Links;
+use pico_base::{Bytes, Call, Errno, Memory, Pid, Reply};
 use std::alloc::Global;
 use std::marker::Model;
 
-/// The bytes of a message's type and of its text's length, which stand before the text.
-pub(crate) const FRONT: usize = 8;
+// The profile's limits: a text's bytes, the greatest `msg_qbytes`, and a queue's messages.
+pub(crate) const MAX_TEXT: usize = 4096;
 
-/// Where a text lies in the buffer.
-#[derive(Clone, Copy, Debug, Drop)]
-pub(crate) struct Span {
-    pub(crate) start: u32,
-    pub(crate) len: u32,
-}
+pub(crate) const MAX_BYTES: u32 = 16384;
 
-/// Messages in order, the oldest first, each linked by arrival and by type. The buffer has each message as a packed
-/// queue has it, and a message is added behind the others. Where one is taken its bytes stay in the buffer as a hole,
-/// until no message is left or the buffer is made anew.
+pub(crate) const MAX_MESSAGES: u32 = 1024;
+
+/// Messages in order, the oldest first, each linked by arrival and by its type, with the queue's numbers. The bytes of
+/// the texts are counted beside them, and contracts also see for how many further messages there is memory.
 #[derive(Drop)]
-pub(crate) struct Messages {
-    pub(crate) links: Links<Span>,
-    pub(crate) texts: Vec<u8>,
-    // no hole lies between two messages, nor behind the last: the buffer ends with the packed form of all
-    pub(crate) is_dense: bool,
+pub(crate) struct Store {
+    pub(crate) messages: Links<Bytes>,
+    // the bytes of the texts
+    pub(crate) bytes: usize,
+    pub(crate) qbytes: u32,
+    pub(crate) last_sender: Pid,
+    pub(crate) last_receiver: Pid,
 }
 
-impl Model for Messages {
-    ghost use Rattle.std.specs.Prelude.{ℕ, List};
-    ghost use Rattle.std.specs.List.{AllByRecursion};
-    ghost use Rattle.index_links.specs.Nodes.{Node};
-    ghost use Rattle.sysv_msg.specs.Heads.{nodes_in, IsWithin};
-    ghost use Rattle.sysv_msg.specs.Dense.{IsDense};
+impl Model for Store {
+    ghost use Rattle.std.specs.Prelude.{◌≡◌};
+    ghost use Rattle.kernel_model.specs.Queue.{bytes_of};
+    ghost use Rattle.sysv_msg.specs.Limits.{IsWithinLimits};
+    ghost use Rattle.sysv_msg.specs.Linked.{messages_of};
+    ghost use Rattle.sysv_msg.specs.Reading.{queue_of};
+    ghost use Rattle.sysv_msg.specs.Stored.{Stored};
 
-    ghost Value = { List (Node (List ℕ)) };
+    ghost Value = { Stored };
 
-    ghost view = { λ s. nodes_in s.texts.items s.links.nodes };
+    ghost view = { λ s. record {
+      queue = queue_of s.qbytes s.last_sender s.last_receiver (messages_of s.messages.nodes);
+      room = s.messages.spare;
+    } };
 
-    ghost invariant = { λ s. AllByRecursion (IsWithin s.texts.items) s.links.nodes
-        × IsDense s.is_dense s.texts.items s.links.nodes };
+    ghost invariant = { λ s. (s.bytes ≡ bytes_of (messages_of s.messages.nodes))
+        × IsWithinLimits (queue_of s.qbytes s.last_sender s.last_receiver (messages_of s.messages.nodes)) };
 }
 
-/// The number, where it has 32 bits.
-pub(crate) fn short_of(number: usize) -> Option<u32>
-    ensures { IfSome result (λ short. short ≡ number) }
+/// The reply to a change.
+fn answer(outcome: Result<(), Errno>) -> Reply
+    ensures { result ≡ done_reply outcome }
 {
-    if number > u32::MAX as usize {
-        return None;
-    }
-    Some(number as u32)
-}
-
-/// The text of a span.
-pub(crate) fn text_at(texts: &[u8], span: Span) -> &[u8]
-    requires { span.start + span.len ≤ length texts.now }
-    ensures text { result.now ≡ text_in texts.now span }
-    ensures short { length result.now < 2 ^ 32 }
-{
-    let start = span.start as usize;
-    &texts[start..start + span.len as usize]
-}
-
-/// Adds the front of a message at the end: its type and the length of its text. A refusal changes nothing.
-fn push_front(out: &mut Vec<u8>, class: i32, len: u32) -> Result<(), Memory>
-    ensures ok { OnOk result
-        (out.new.items ≡ out.old.items ++ (to_be_bytes w32 (cast_unsigned w32 class) ++ to_be_bytes w32 len)) }
-    ensures err { OnErr result (out.new.items ≡ out.old.items) }
-{
-    let class = class.to_be_bytes();
-    let len = len.to_be_bytes();
-    let fields = [
-        class[0], class[1], class[2], class[3], len[0], len[1], len[2], len[3],
-    ];
-    out.extend_from_slice(&fields)?;
-    Ok(())
-}
-
-/// Adds a message at the end, as a packed queue has it. A refusal changes nothing.
-pub(crate) fn push_message(out: &mut Vec<u8>, class: i32, text: &[u8]) -> Result<(), Memory>
-    requires { length text.now < 2 ^ 32 }
-    ensures ok { OnOk result
-        (out.new.items ≡ out.old.items ++ message_field (record { class = class; text = text.now })) }
-    ensures err { OnErr result (out.new.items ≡ out.old.items) }
-{
-    let before = out.len();
-    push_front(out, class, text.len() as u32)?;
-    if out.extend_from_slice(text).is_err() {
-        out.truncate(before);
-        return Err(Memory);
-    }
-    Ok(())
-}
-
-/// Whether no hole lies among messages from which one is taken out, whose slot this is.
-fn stays_dense(is_dense: bool, first: Option<Slot>, slot: Slot) -> bool
-    ensures { IsTrue result → (is_dense ≡ true) × (first ≡ Some slot) }
-{
-    match first {
-        Some(oldest) => is_dense && oldest == slot,
-        None => false,
+    match outcome {
+        Ok(()) => Reply::Num(0),
+        Err(errno) => Reply::Fail(errno),
     }
 }
 
-/// The absolute value of a type below 0, or the highest type there is.
-fn bound_of(class: i32) -> i32
-    requires { class <ℤ pos 0 }
-    ensures { (c : ℤ) → FitsSigned w32 c → int_le c result ≡ int_le c (pos 0 -ℤ class) }
+/// The reply to msgrcv.
+fn received(outcome: Result<Message, Errno>) -> Reply
+    ensures { result ≡ reply_of_message outcome }
 {
-    if class == i32::MIN { i32::MAX } else { -class }
-}
-
-/// The slot of the first message of the lowest type that isn't above a type's absolute value, where that is below 0.
-fn slot_of_lowest(links: &Links<Span>, class: i32) -> Option<Slot>
-    requires negative { class <ℤ pos 0 }
-    requires fits { AllByRecursion (λ n. FitsSigned w32 n.class) links.now.nodes }
-    ensures { result ≡ slot_for class links.now.nodes }
-{
-    let least = links.least_class_upto(bound_of(class))?;
-    links.first_of(least)
-}
-
-/// The slot of the message that a receive of this type asks for: of the first message for 0, of the first of this
-/// type where it is positive, and of the first of the lowest type that isn't above its absolute value where it is
-/// negative. None where there is none.
-#[tactic(auto, using(crate::proofs::Selected::slots))]
-fn slot_of(links: &Links<Span>, class: i32) -> Option<Slot>
-    requires { AllByRecursion (λ n. FitsSigned w32 n.class) links.now.nodes }
-    ensures { result ≡ slot_for class links.now.nodes }
-{
-    if class < 0 {
-        slot_of_lowest(links, class)
-    } else if class > 0 {
-        links.first_of(class)
-    } else {
-        links.first()
+    match outcome {
+        Ok(message) => message.into_reply(),
+        Err(errno) => Reply::Fail(errno),
     }
 }
 
-impl Messages {
-    /// No messages.
-    pub(crate) fn new(alloc: Global) -> Messages
-        ensures { result ≡ [] }
+/// The text cut to this size. It takes no memory.
+fn cut(text: Bytes, size: u32) -> Bytes
+    ensures { result ≡ take size text }
+{
+    let mut bytes = text.into_vec();
+    bytes.truncate(size as usize);
+    Bytes::from_vec(bytes)
+}
+
+/// Adds a message behind the others, for which there is memory.
+fn push(links: &mut Links<Bytes>, class: i32, text: Bytes)
+    requires { 1 ≤ links.old.spare }
+    ensures messages { messages_of links.new.nodes
+        ≡ messages_of links.old.nodes ++ record { class = class; text = text } ∷ [] }
+    ensures spare { links.old.spare ≤ links.new.spare + 1 }
+{
+    let _ = links.push_reserved(class, text);
+}
+
+/// Whether a text of this length may be taken into `size` bytes, cut if need be where MSG_NOERROR is set.
+fn fits(length: usize, size: u32, noerror: bool) -> bool
+    ensures { result ≡ (nat_le length size || noerror) }
+{
+    length <= size as usize || noerror
+}
+
+impl Store {
+    /// An empty queue, with the greatest `msg_qbytes`. It takes no memory.
+    pub(crate) fn new(alloc: Global) -> Store
+        ensures { result.queue ≡ empty_queue }
     {
-        Messages {
-            links: Links::new(alloc),
-            texts: Vec::new(alloc),
-            is_dense: true,
+        Store {
+            messages: Links::new(alloc),
+            bytes: 0,
+            qbytes: MAX_BYTES,
+            last_sender: Pid(0),
+            last_receiver: Pid(0),
         }
     }
 
-    /// How many messages there are.
-    pub(crate) fn len(&self) -> u32
-        ensures { result ≡ length (messages_of self.now) }
+    /// Memory for this many further messages.
+    pub(crate) fn reserve(&mut self, count: u32) -> Result<(), Memory>
+        ensures same { self.new.queue ≡ self.old.queue }
+        ensures ok { OnOk result (count ≤ self.new.room) }
+        ensures no_less { self.old.room ≤ self.new.room }
     {
-        self.links.len()
+        self.messages.reserve(count)
     }
 
-    /// Adds a message behind the others, its text at the end of the buffer. A refusal changes nothing.
-    pub(crate) fn add(&mut self, class: i32, text: &[u8]) -> Result<(), Memory>
-        requires { length text.now < 2 ^ 32 }
-        ensures ok { OnOk result
-            (messages_of self.new ≡ messages_of self.old ++ record { class = class; text = text.now } ∷ []) }
-        ensures err { OnErr result (self.new ≡ self.old) }
+    /// msgctl with IPC_STAT.
+    pub(crate) fn stat(&self) -> Reply
+        ensures { result ≡ stat self.now.queue }
     {
-        let Some(start) = short_of(self.texts.len() + FRONT) else {
-            return Err(Memory);
-        };
-        let len = text.len() as u32;
-        self.links.reserve(1)?;
-        push_message(&mut self.texts, class, text)?;
-        let _ = self.links.push_reserved(class, Span { start, len });
+        Reply::Stat {
+            qnum: self.messages.len(),
+            qbytes: self.qbytes,
+            lspid: self.last_sender,
+            lrpid: self.last_receiver,
+        }
+    }
+
+    /// msgctl with IPC_SET: EINVAL above the limit.
+    pub(crate) fn set_qbytes(&mut self, qbytes: u32) -> Result<(), Errno>
+        ensures set { MatchResult result (λ _. set_qbytes self.old.queue qbytes ≡ Ok self.new.queue)
+            (λ e. (set_qbytes self.old.queue qbytes ≡ Err e) × (self.new.queue ≡ self.old.queue)) }
+        ensures room { self.new.room ≡ self.old.room }
+    {
+        if qbytes > MAX_BYTES {
+            return Err(Errno::Einval);
+        }
+        self.qbytes = qbytes;
         Ok(())
     }
 
-    /// The slot of the message that a receive of this type asks for.
-    pub(crate) fn slot_of(&self, class: i32) -> Option<Slot>
-        requires { AllByRecursion IsSendable (messages_of self.now) }
-        ensures { MatchOption result (definition.select (messages_of self.now) class ≡ None)
-            (λ slot. IsSelected class self.now slot) }
+    /// Whether there is room for a text of this length.
+    fn has_room(&self, len: usize) -> bool
+        ensures { result ≡ (nat_le (bytes_in self.now.queue + len) self.now.queue.qbytes
+            && nat_lt (length self.now.queue.messages) max_messages) }
     {
-        self.links.have_own_slots();
-        slot_of(&self.links, class)
+        self.qbytes as usize >= self.bytes
+            && len <= self.qbytes as usize - self.bytes
+            && self.messages.len() < MAX_MESSAGES
     }
 
-    /// The type and the text of the message in a slot.
-    pub(crate) fn at(&self, slot: Slot) -> (i32, &[u8])
-        requires { IsThere slot self.now }
-        ensures there { option_map message_of (node_at slot self.now)
-            ≡ Some (record { class = result.0; text = result.1.now }) }
-        ensures short { length result.1.now < 2 ^ 32 }
+    /// Why a send of a text of this length is refused, if it is: EINVAL for a type below 1 and a text above the limit,
+    /// EAGAIN where there is no room.
+    pub(crate) fn refusal(&self, class: i32, len: usize) -> Option<Errno>
+        ensures { (pid : ℕ) (text : List ℕ) → length text ≡ len → MatchOption result
+            (IsOk (send self.now.queue pid class text)) (λ e. send self.now.queue pid class text ≡ Err e) }
     {
-        (
-            self.links.class(slot),
-            text_at(&self.texts, *self.links.value(slot)),
-        )
+        if class < 1 || len > MAX_TEXT {
+            return Some(Errno::Einval);
+        }
+        if !self.has_room(len) {
+            return Some(Errno::Eagain);
+        }
+        None
     }
 
-    /// What the messages take their memory from.
-    pub(crate) fn allocator(&self) -> Global {
-        *self.texts.allocator()
+    /// msgsnd, where there is memory for the message: EINVAL for a type below 1 and a text above the limit, EAGAIN
+    /// where there is no room.
+    pub(crate) fn send(&mut self, pid: Pid, class: i32, text: Bytes) -> Result<(), Errno>
+        requires { 1 ≤ self.old.room }
+        ensures sent { MatchResult result (λ _. send self.old.queue pid class text ≡ Ok self.new.queue)
+            (λ e. (send self.old.queue pid class text ≡ Err e) × (self.new.queue ≡ self.old.queue)) }
+        ensures room { self.old.room ≤ self.new.room + 1 }
+    {
+        if class < 1 || text.len() > MAX_TEXT {
+            return Err(Errno::Einval);
+        }
+        if !self.has_room(text.len()) {
+            return Err(Errno::Eagain);
+        }
+        self.bytes += text.len();
+        push(&mut self.messages, class, text);
+        self.last_sender = pid;
+        Ok(())
     }
 
-    /// Takes the message in a slot away.
-    pub(crate) fn remove(&mut self, slot: Slot)
-        requires { IsThere slot self.old }
-        ensures { self.new ≡ without slot self.old }
+    /// msgrcv: ENOMSG where no message is selected, E2BIG for a text above the size asked. It takes no memory.
+    pub(crate) fn receive(
+        &mut self,
+        pid: Pid,
+        class: i32,
+        size: u32,
+        noerror: bool,
+    ) -> Result<Message, Errno>
+        ensures received { MatchResult result
+            (λ m. receive self.old.queue pid class size noerror ≡ Ok (record { queue = self.new.queue; message = m }))
+            (λ e. (receive self.old.queue pid class size noerror ≡ Err e) × (self.new.queue ≡ self.old.queue)) }
+        ensures room { self.old.room ≤ self.new.room }
     {
-        self.is_dense = stays_dense(self.is_dense, self.links.first(), slot);
-        let _ = self.links.unlink(slot);
-        if self.links.len() == 0 {
-            self.texts.clear();
-            self.is_dense = true;
+        let Some(slot) = selected(&self.messages, class) else {
+            return Err(Errno::Enomsg);
+        };
+        let length = self.messages.value(slot).len();
+        if !fits(length, size, noerror) {
+            return Err(Errno::E2big);
+        }
+        let kind = self.messages.class(slot);
+        let text = self.messages.unlink(slot);
+        self.bytes -= length;
+        self.last_receiver = pid;
+        Ok(Message {
+            class: kind,
+            text: cut(text, size),
+        })
+    }
+
+    /// Whether a send of a text of this length is accepted, or refused for good.
+    pub(crate) fn can_send(&self, class: i32, len: usize) -> bool
+        ensures { result ≡ can_send self.now.queue class len }
+    {
+        class < 1 || len > MAX_TEXT || self.has_room(len)
+    }
+
+    /// Whether a message is selected.
+    fn can_receive(&self, class: i32) -> bool
+        ensures { result ≡ can_receive self.now.queue class }
+    {
+        match selected(&self.messages, class) {
+            Some(_) => true,
+            None => false,
+        }
+    }
+
+    /// Whether a call has its reply at once, and needn't wait.
+    pub(crate) fn can_go(&self, pid: Pid, call: &Call) -> bool
+        ensures { result ≡ is_some (try_queue self.now.queue pid call.now) }
+    {
+        match call {
+            Call::MsgSnd {
+                class,
+                text,
+                nowait,
+                ..
+            } => *nowait || self.can_send(*class, text.len()),
+            Call::MsgRcv { class, nowait, .. } => *nowait || self.can_receive(*class),
+            _ => true,
+        }
+    }
+
+    /// Carries out a call that needn't wait, where there is memory for one message more.
+    pub(crate) fn perform(&mut self, pid: Pid, call: Call) -> Reply
+        requires goes { is_some (try_queue self.old.queue pid call) ≡ true }
+        requires room { 1 ≤ self.old.room }
+        ensures done { try_queue self.old.queue pid call ≡ Some (attempt self.new.queue result) }
+        ensures room { self.old.room ≤ self.new.room + 1 }
+    {
+        match call {
+            Call::MsgSnd { class, text, .. } => answer(self.send(pid, class, text)),
+            Call::MsgRcv {
+                class,
+                size,
+                noerror,
+                ..
+            } => received(self.receive(pid, class, size, noerror)),
+            Call::MsgStat { .. } => self.stat(),
+            Call::MsgSet { qbytes, .. } => answer(self.set_qbytes(qbytes)),
+            _ => Reply::Fail(Errno::Einval),
         }
     }
 }

@@ -1,258 +1,241 @@
-//! A queue read from bytes: first the numbers before its messages, and then its messages are copied as they are read.
-ghost use Rattle.std.specs.Prelude.{[], ◌≡◌, ◌≤◌, ◌*◌, length, IfOk, IfErr, IfSome, MatchOption, is_some};
-ghost use Rattle.std.specs.Int.{w16, w32};
-ghost use Rattle.kernel_model.specs.Queue as definition;
-ghost use Rattle.kernel_model.specs.Queue.{max_text, max_queue_bytes};
-ghost use Rattle.sysv_msg.specs.Body.{IsBodyOf};
-ghost use Rattle.body_fields.specs.Fields.{Reads, Refuses, TellsPacked, number_upto};
-ghost use Rattle.sysv_msg.specs.Reading.{text_at, class_at, message_at, messages_at, all_messages_at, fields_at, queue_at};
-ghost use Rattle.sysv_msg.specs.Measured.{AreRead, FitsQueue, HasFields, AreAll};
+//! A queue read from bytes: its numbers, its messages, those who wait, and whether one of them could go on.
+ghost use Rattle.std.specs.Prelude.{◌≡◌, ◌≤◌, ◌+◌, [], ◌∷◌, Err, length, IfOk, IfSome, OnOk};
+ghost use Rattle.std.specs.Bool.{OnTrue};
+ghost use Rattle.std.specs.List.{list_all};
+ghost use Rattle.pico_base.specs.declared.fault.UnpackFault.TheVariants.{NotABody};
+ghost use Rattle.kernel_model.specs.Queue.{bytes_of, Queue as State};
+ghost use Rattle.waiting_model.specs.Waiters.{awaited, Awaited};
+ghost use Rattle.body_fields.specs.Fields.{whole, TellsPacked};
+ghost use Rattle.frame_bytes.specs.Readers.{many, Gives};
+ghost use Rattle.waiter_fields.specs.Waiters.{waiters_at};
+ghost use Rattle.sysv_msg.specs.Body.{IsBodyOf, queue_code};
 ghost use Rattle.sysv_msg.specs.Linked.{messages_of};
+ghost use Rattle.sysv_msg.specs.Passing.{HasMessages, HasState, IsUnawaited, Passes};
+ghost use Rattle.sysv_msg.specs.Reading.{call_at, fields_at, message_at, messages_at, queue_at, settled_or_none, waits};
 
 use crate::Queue;
-use crate::pack::CODE;
-use crate::queue::{MAX_BYTES, MAX_MESSAGES, MAX_TEXT};
-use crate::store::{FRONT, Messages, Span, short_of};
-use body_fields::{u16_upto, u32_at, u32_upto};
+use crate::awaiting::Awaiting;
+use crate::calls::QueueCalls;
+use crate::reading::{CODE, message_of, numbers_of};
+use crate::store::{MAX_BYTES, MAX_MESSAGES, Store};
+use body_fields::u16_upto;
+use frame_bytes::Read;
 use index_links::Links;
-use pico_base::{Memory, Pid, UnpackFault};
+use pico_base::{Bytes, Memory, Pid, UnpackFault};
 use std::alloc::Global;
+use waiter_fields::{MAX_WAITERS, read_waiters};
+use waiting_model::Waiting;
 
-// For how many messages more, and for how many bytes of theirs, there is room in a queue that was unpacked.
-const MORE: u32 = 16;
+/// For how many messages more than are there a queue that was unpacked has room: for those of all who may wait.
+const MORE: u32 = MAX_WAITERS as u32;
 
-const MORE_BYTES: usize = 1024;
-
-/// The numbers of a packed queue, with the bytes where its messages ought to be.
-#[derive(Clone, Copy)]
-struct Fields<'a> {
-    qbytes: u32,
-    sender: u32,
-    receiver: u32,
+/// Reads so many messages into links that have none, and room for more. Gives how many bytes their texts have, and the
+/// bytes behind them.
+fn copy_messages<'a>(
+    alloc: Global,
+    into: &mut Links<Bytes>,
     count: u16,
-    messages: &'a [u8],
-}
-
-/// A text of at most so many bytes, and the bytes after it.
-#[tactic(auto, unfolding(crate::specs::Reading::text_at))]
-fn text_of(limit: u32, bytes: &[u8]) -> Option<(&[u8], &[u8])>
-    ensures read { Reads (λ x. (x.0.now, x.1.now)) result (text_at limit bytes.now) }
-    ensures within { IfSome result (λ x. length x.0.now ≤ limit) }
+    bytes: &'a [u8],
+) -> Read<'a, usize>
+    requires nothing { into.old.nodes ≡ [] }
+    requires few { count ≤ 1024 }
+    requires room { count + 32 ≤ into.old.spare }
+    ensures read { Gives (λ x. (messages_of into.new.nodes, x.1.now)) result (many message_at count bytes.now) }
+    ensures size { IfOk result (λ x. x.0 ≡ bytes_of (messages_of into.new.nodes)) }
+    ensures more { OnOk result (32 ≤ into.new.spare) }
 {
-    let (len, rest) = u32_upto(limit, bytes)?;
-    let len = len as usize;
-    if rest.len() < len {
-        return None;
+    let mut size = 0;
+    let mut rest = bytes;
+    for _ in 0..count {
+        let Some((class, text, after)) = message_of(rest) else {
+            return Err(UnpackFault::NotABody);
+        };
+        size += text.len();
+        let _ = into.push_reserved(class, Bytes::from_slice(alloc, text)?);
+        rest = after;
     }
-    Some(rest.split_at(len))
+    Ok((size, rest))
 }
 
-/// A type, and the bytes after it.
-#[tactic(auto, unfolding(crate::specs::Reading::class_at))]
-fn class_of(bytes: &[u8]) -> Option<(i32, &[u8])>
-    ensures { Reads (λ x. (x.0, x.1.now)) result (class_at bytes.now) }
+/// Reads the messages behind their count into links that have none. Gives how many bytes their texts have, and the
+/// bytes behind them.
+#[tactic(auto, unfolding(crate::specs::Reading::messages_at))]
+fn read_messages<'a>(alloc: Global, into: &mut Links<Bytes>, bytes: &'a [u8]) -> Read<'a, usize>
+    requires { into.old.nodes ≡ [] }
+    ensures read { Gives (λ x. (messages_of into.new.nodes, x.1.now)) result (messages_at bytes.now) }
+    ensures size { IfOk result (λ x. x.0 ≡ bytes_of (messages_of into.new.nodes)) }
+    ensures more { OnOk result (32 ≤ into.new.spare) }
 {
-    let (number, rest) = u32_at(bytes)?;
-    let class = number.cast_signed();
-    if class < 1 {
-        return None;
+    let Some((count, rest)) = u16_upto(MAX_MESSAGES as u16, bytes) else {
+        return Err(UnpackFault::NotABody);
+    };
+    into.reserve(u32::from(count) + MORE)?;
+    let (size, rest) = copy_messages(alloc, into, count, rest)?;
+    if size > MAX_BYTES as usize {
+        return Err(UnpackFault::NotABody);
     }
-    Some((class, rest))
+    Ok((size, rest))
 }
 
-/// The type and the text of a message, and the bytes after it.
-#[tactic(auto, unfolding(crate::specs::Reading::message_at))]
-fn message_of(bytes: &[u8]) -> Option<(i32, &[u8], &[u8])>
-    ensures read { Reads (λ x. (record { class = x.0; text = x.1.now }, x.2.now)) result
-        (message_at bytes.now) }
-    ensures within { IfSome result (λ x. length x.1.now ≤ max_text) }
+/// Those who wait, all of the bytes.
+fn waiters_of(alloc: Global, bytes: &[u8]) -> Result<Vec<Waiting>, UnpackFault>
+    ensures read { Gives (λ ws. ws.items) result (whole (waiters_at call_at bytes.now)) }
+    ensures few { IfOk result (λ ws. length ws.items ≤ 32) }
 {
-    let (class, rest) = class_of(bytes)?;
-    let (text, rest) = text_of(MAX_TEXT as u32, rest)?;
-    Some((class, text, rest))
-}
-
-/// How many bytes the texts of so many messages have, whatever their sum, that were read up to these bytes, if none
-/// are left and a queue may have so many.
-fn size_of_texts(count: u16, bytes: &[u8], rest: &[u8]) -> Option<usize>
-    requires { AreRead (messages_at count bytes.now) rest.now }
-    ensures { MatchOption result (all_messages_at count bytes.now ≡ None)
-        (λ size. FitsQueue count bytes.now rest.now size) }
-{
+    let (waiters, rest) = read_waiters::<QueueCalls>(alloc, bytes)?;
     if !rest.is_empty() {
-        return None;
+        return Err(UnpackFault::NotABody);
     }
-    let size = bytes.len() - FRONT * usize::from(count);
+    Ok(waiters)
+}
+
+/// Whether the waiter couldn't go on.
+fn waits(store: &Store, waiter: &Waiting) -> bool
+    ensures { result ≡ waits store.now.queue waiter.now }
+{
+    !store.can_go(waiter.pid, &waiter.call)
+}
+
+/// Whether none of those who wait could go on.
+fn all_wait(store: &Store, waiters: &[Waiting]) -> bool
+    ensures { result ≡ list_all (waits store.now.queue) waiters.now }
+{
+    waiters.iter().all(|waiter| waits(store, waiter))
+}
+
+/// The queue with those who wait, if none of them could go on.
+fn settled(store: Store, waiters: Vec<Waiting>) -> Result<Awaiting, UnpackFault>
+    requires few { length waiters.items ≤ 32 }
+    requires more { 32 ≤ store.room }
+    ensures { Gives (λ q. q) result (settled_or_none (awaited store.queue waiters.items)) }
+{
+    if !all_wait(&store, waiters.as_slice()) {
+        return Err(UnpackFault::NotABody);
+    }
+    Ok(Awaiting { store, waiters })
+}
+
+/// The queue and those who wait, behind the code.
+fn fields_of(alloc: Global, bytes: &[u8]) -> Result<Awaiting, UnpackFault>
+    ensures { Gives (λ q. q) result (fields_at bytes.now) }
+{
+    let Some((qbytes, sender, receiver, rest)) = numbers_of(bytes) else {
+        return Err(UnpackFault::NotABody);
+    };
+    let mut messages = Links::new(alloc);
+    let (size, rest) = read_messages(alloc, &mut messages, rest)?;
+    let waiters = waiters_of(alloc, rest)?;
+    let store = Store {
+        messages,
+        bytes: size,
+        qbytes,
+        last_sender: Pid(sender),
+        last_receiver: Pid(receiver),
+    };
+    settled(store, waiters)
+}
+
+/// The queue and those who wait, behind the code, which is read, too.
+#[tactic(auto, unfolding(crate::specs::Reading::queue_at))]
+fn awaiting_of(alloc: Global, bytes: &[u8]) -> Result<Awaiting, UnpackFault>
+    ensures { Gives (λ q. q) result (queue_at bytes.now) }
+{
+    match bytes {
+        [CODE, fields @ ..] => fields_of(alloc, fields),
+        _ => Err(UnpackFault::NotABody),
+    }
+}
+
+/// Passes over so many messages: how many bytes their texts have, and the bytes behind them.
+fn pass_messages(count: u16, bytes: &[u8]) -> Option<(usize, &[u8])>
+    requires { count ≤ 1024 }
+    ensures { IfSome result (λ x. Passes count bytes.now x.0 x.1.now) }
+{
+    let mut size = 0;
+    let mut rest = bytes;
+    for _ in 0..count {
+        let (_, text, after) = message_of(rest)?;
+        size += text.len();
+        rest = after;
+    }
+    Some((size, rest))
+}
+
+/// The bytes behind messages, which stand behind their count.
+fn behind_messages(bytes: &[u8]) -> Option<&[u8]>
+    ensures { IfSome result (λ rest. HasMessages bytes.now rest.now) }
+{
+    let (count, rest) = u16_upto(MAX_MESSAGES as u16, bytes)?;
+    let (size, rest) = pass_messages(count, rest)?;
     if size > MAX_BYTES as usize {
         return None;
     }
-    Some(size)
+    Some(rest)
 }
 
-/// Whether the bytes are so many messages of a queue, and no more. It takes no memory.
-fn are_messages(count: u16, bytes: &[u8]) -> bool
-    ensures { result ≡ is_some (all_messages_at count bytes.now) }
+/// The bytes behind a queue's own fields.
+fn behind_fields(bytes: &[u8]) -> Option<&[u8]>
+    ensures { IfSome result (λ rest. HasState bytes.now rest.now) }
 {
-    let mut rest = bytes;
-    for _ in 0..count {
-        let Some((_, _, after)) = message_of(rest) else {
-            return false;
-        };
-        rest = after;
-    }
-    match size_of_texts(count, bytes, rest) {
-        Some(_) => true,
-        None => false,
-    }
+    let (_, _, _, rest) = numbers_of(bytes)?;
+    let behind = behind_messages(rest)?;
+    Some(behind)
 }
 
-/// The numbers behind the code.
-#[tactic(auto, unfolding(crate::specs::Reading::fields_at))]
-fn fields_of(bytes: &[u8]) -> Option<Fields<'_>>
-    ensures { MatchOption result (fields_at bytes.now ≡ None)
-        (λ f. HasFields f.qbytes f.sender f.receiver f.count f.messages.now (fields_at bytes.now)) }
-{
-    let (qbytes, rest) = u32_upto(MAX_BYTES, bytes)?;
-    let (sender, rest) = u32_at(rest)?;
-    let (receiver, rest) = u32_at(rest)?;
-    let (count, messages) = u16_upto(MAX_MESSAGES as u16, rest)?;
-    Some(Fields {
-        qbytes,
-        sender,
-        receiver,
-        count,
-        messages,
-    })
-}
-
-/// The numbers behind the code, which is read, too.
-#[tactic(auto, unfolding(crate::specs::Reading::queue_at))]
-fn queue_fields(bytes: &[u8]) -> Option<Fields<'_>>
-    ensures { MatchOption result (queue_at bytes.now ≡ None)
-        (λ f. HasFields f.qbytes f.sender f.receiver f.count f.messages.now (queue_at bytes.now)) }
+/// The bytes behind a queue's code.
+fn behind_code(bytes: &[u8]) -> Option<&[u8]>
+    ensures { IfSome result (λ fields. bytes.now ≡ queue_code ∷ fields.now) }
 {
     match bytes {
-        [CODE, fields @ ..] => fields_of(fields),
+        [CODE, fields @ ..] => Some(fields),
         _ => None,
     }
 }
 
-/// The bytes, with room for some more behind them.
-fn copied(alloc: Global, bytes: &[u8]) -> Result<Vec<u8>, Memory>
-    ensures { IfOk result (λ texts. texts.items ≡ bytes.now) }
+/// Whether the bytes are those of no waiters, all of them.
+fn are_none(waiters: &[u8]) -> bool
+    ensures { OnTrue result (waiters.now ≡ 0 ∷ []) }
 {
-    let mut texts = Vec::with_capacity(alloc, bytes.len() + MORE_BYTES)?;
-    texts.extend_from_slice(bytes)?;
-    Ok(texts)
-}
-
-/// Copies the messages that the bytes are, with how many bytes their texts have: the bytes whole, and of each message
-/// where its text lies in them. None where the bytes are not so many messages, and no more.
-#[inline(never)]
-pub(crate) fn copy_messages(
-    alloc: Global,
-    fresh: Links<Span>,
-    count: u16,
-    bytes: &[u8],
-) -> Result<Option<(Messages, usize)>, Memory>
-    requires nothing { fresh.nodes ≡ [] }
-    requires room { count ≤ fresh.spare }
-    ensures { IfOk result (λ got.
-        MatchOption got (all_messages_at count bytes.now ≡ None)
-        (λ x. AreAll (all_messages_at count bytes.now) (messages_of x.0) x.1)) }
-{
-    let mut links = fresh;
-    let mut rest = bytes;
-    for _ in 0..count {
-        let Some((class, text, after)) = message_of(rest) else {
-            return Ok(None);
-        };
-        let Some(start) = short_of(bytes.len() - after.len() - text.len()) else {
-            return Err(Memory);
-        };
-        let len = text.len() as u32;
-        let _ = links.push_reserved(class, Span { start, len });
-        rest = after;
-    }
-    let Some(size) = size_of_texts(count, bytes, rest) else {
-        return Ok(None);
-    };
-    let texts = copied(alloc, bytes)?;
-    Ok(Some((
-        Messages {
-            links,
-            texts,
-            is_dense: true,
-        },
-        size,
-    )))
-}
-
-/// No messages, with room for so many and some more.
-fn room_for(alloc: Global, count: u16) -> Result<Links<Span>, Memory>
-    ensures nothing { IfOk result (λ links. links.nodes ≡ []) }
-    ensures room { IfOk result (λ links. count ≤ links.spare) }
-{
-    let mut links = Links::new(alloc);
-    links.reserve(u32::from(count) + MORE)?;
-    Ok(links)
-}
-
-/// Copies the messages that the bytes are, into memory of their own.
-fn unpacked(alloc: Global, count: u16, bytes: &[u8]) -> Result<Option<(Messages, usize)>, Memory>
-    ensures { IfOk result (λ got.
-        MatchOption got (all_messages_at count bytes.now ≡ None)
-        (λ x. AreAll (all_messages_at count bytes.now) (messages_of x.0) x.1)) }
-{
-    copy_messages(alloc, room_for(alloc, count)?, count, bytes)
-}
-
-/// What is told where memory ran out: Memory if the bytes are the packed form of a queue. It takes no memory.
-#[cold]
-#[inline(never)]
-fn without_memory(bytes: &[u8]) -> UnpackFault
-    ensures { Refuses (λ q. IsBodyOf q bytes.now) result }
-{
-    if Queue::is_packed(bytes) {
-        UnpackFault::Memory
-    } else {
-        UnpackFault::NotABody
-    }
+    matches!(waiters, [0])
 }
 
 impl Queue {
-    /// Whether the bytes are the packed form of a queue. It takes no memory.
-    pub fn is_packed(bytes: &[u8]) -> bool
-        ensures { TellsPacked (λ q. IsBodyOf q bytes.now) result }
+    /// Only where the bytes are the packed form of a queue at which nobody waits is it true. It takes no memory.
+    pub fn is_unawaited(bytes: &[u8]) -> bool
+        ensures { OnTrue result (IsUnawaited bytes.now) }
     {
-        match queue_fields(bytes) {
-            Some(fields) => are_messages(fields.count, fields.messages),
-            None => false,
+        let Some(fields) = behind_code(bytes) else {
+            return false;
+        };
+        let Some(waiters) = behind_fields(fields) else {
+            return false;
+        };
+        are_none(waiters)
+    }
+
+    /// Whether the bytes are the packed form of a queue. Memory: an allocation was refused.
+    pub fn is_packed(alloc: Global, bytes: &[u8]) -> Result<bool, Memory>
+        ensures { IfOk result (TellsPacked (λ q. IsBodyOf q bytes.now)) }
+    {
+        match Queue::unpack(alloc, bytes) {
+            Ok(_) => Ok(true),
+            Err(UnpackFault::NotABody) => Ok(false),
+            Err(UnpackFault::Memory) => Err(Memory),
         }
     }
 
-    /// The queue whose packed form the bytes are. NotABody exactly where they are the packed form of no queue, so
-    /// Memory comes only where they are one's.
+    /// The queue whose packed form the bytes are. NotABody: they are the packed form of no queue. Memory: an allocation
+    /// was refused.
     pub fn unpack(alloc: Global, bytes: &[u8]) -> Result<Queue, UnpackFault>
         // What is unpacked is packed so.
         ensures found { IfOk result (λ q. IsBodyOf q bytes.now) }
         // What is packed so is unpacked, unless memory runs out.
-        ensures only { (q : definition.Queue) → IsBodyOf q bytes.now → IfOk result (λ got. got ≡ q) }
-        ensures refused { IfErr result (Refuses (λ q. IsBodyOf q bytes.now)) }
+        ensures only { (q : Awaited State) → IsBodyOf q bytes.now → IfOk result (λ got. got ≡ q) }
+        ensures refused { result ≡ Err NotABody → (q : Awaited State) → IsBodyOf q bytes.now → ⊥ }
     {
-        let Some(fields) = queue_fields(bytes) else {
-            return Err(UnpackFault::NotABody);
-        };
-        match unpacked(alloc, fields.count, fields.messages) {
-            Ok(Some((messages, size))) => Ok(Queue {
-                messages,
-                bytes: size,
-                qbytes: fields.qbytes,
-                last_sender: Pid(fields.sender),
-                last_receiver: Pid(fields.receiver),
-            }),
-            Ok(None) => Err(UnpackFault::NotABody),
-            Err(Memory) => Err(without_memory(bytes)),
+        match awaiting_of(alloc, bytes) {
+            Ok(awaiting) => Ok(Queue { awaiting }),
+            Err(fault) => Err(fault),
         }
     }
 }

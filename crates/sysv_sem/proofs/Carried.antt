@@ -1,205 +1,224 @@
--- Operations that are carried out one by one are what the trial and the marks after it make.
-use Rattle.std.proofs.Common.{◌≡◌, ℕ, zero, suc, ◌+◌, ◌<◌, ◌≤◌, false, leb, ltb, List, [], ◌∷◌, Option, Some, None, Result, Ok, Err, length, get_or, set, refl, sym, ap, subst, ◌∙◌, arith}
-use Rattle.std.specs.Prelude.{fold, slice_get, option_map, IfOk, IfErr, OnOk, OnErr}
-use Rattle.std.specs.List.{list_any}
-use Rattle.std.proofs.lemmas.Bool.{or_parts}
-use Rattle.std.proofs.lemmas.Bool.Decides.{nat_tests}
-use Rattle.std.proofs.lemmas.List.{length-set, length-map}
-use Rattle.std.proofs.lemmas.Option.{slice_get_read}
-use Rattle.pico_base.specs.declared.call.SemStep.{SemStep}
+-- What a call on a set comes to, put together from its try, from settling and from parking.
+use Rattle.std.proofs.Common.{◌≡◌, ◌∙◌, ◌<◌, ◌≤◌, ℕ, zero, suc, Bool, true, false, ◌&&◌, cond, List, [], ◌∷◌, ◌++◌, length, Option, Some, None, Result, Ok, Err, refl, sym, ap, subst, arith}
+use Rattle.std.specs.Prelude.{IfOk, OnErr}
+use Rattle.std.specs.List.{list_any, AllByRecursion}
+use Rattle.std.proofs.lemmas.Bool.{leb-true}
+use Rattle.answer_laws.specs.Answers.{reply_to}
+use Rattle.pico_base.specs.declared.call.Call.{Call}
+use Rattle.pico_base.specs.declared.call.Call.TheVariants as calls
 use Rattle.pico_base.specs.declared.reply.Errno.{Errno}
-use Rattle.kernel_model.specs.SemaphoreSet.{Semaphore, SemaphoreSet, set_of, Moved, To, Waits, TooHigh, Tried, Done, StopsAt, OutOfRange, values_of, move_by, move_at, go_on, try_from, with_values, mark_at, mark, op_after_trial, op, max_operations}
-use Rattle.sysv_sem.specs.Answers.{answer_of, on_value, carried}
+use Rattle.pico_base.specs.declared.reply.Reply.{Reply}
+use Rattle.pico_base.specs.declared.reply.Reply.TheVariants.{All}
+use Rattle.index_links.specs.Nodes.{Node}
+use Rattle.kernel_model.specs.SemaphoreSet.{SemaphoreSet, values_of, value_at, last_at, op, max_operations}
+use Rattle.waiting_model.specs.declared.callers.Applied.{Applied}
+use Rattle.waiting_model.specs.declared.callers.Waiting.{Waiting}
+use Rattle.waiting_model.specs.declared.callers.Wake.{Wake}
+use Rattle.waiting_model.specs.Waiters.{Attempt, Awaited, Carried, Ready, Settled, awaited, attempt, changed, looked_up, wake, ready_or, first_ready, replied, woken_first, settle, settle_by, settle_on, carry_out, carry_out_by, waits_here, IsSettled}
+use Rattle.waiting_model.specs.SemaphoreSet.{are_tried, stop_of, waits_for, try_op, try_set, carry_out_on_set, carry_out_on_set_by}
+use Rattle.sysv_sem.specs.Calls.{carried_to, counted_reply, is_look, look_reply}
+use Rattle.sysv_sem.specs.declared.waiters.Look.TheVariants.{Negative, Zero}
+use Rattle.sysv_sem.specs.Limits.{IsWithinLimits}
+use Rattle.sysv_sem.specs.Settling.{settled}
+use Rattle.sysv_sem.specs.Waiters.{held, max_waiters, waiters_in, try_steps, IsShortOp, IsSetWaiter, MayWait, IsAtRest}
+use Rattle.sysv_sem.proofs.Kept.{OthersHave, all_others, all_behind, may_behind, settling_keeps, settled_whole, IsSo}
+use Rattle.sysv_sem.proofs.Rounds.{settle_rests}
+use Rattle.sysv_sem.proofs.Within.{try_within}
 
-abbrev made : ℕ → ℕ → Semaphore
-made pid value = record { value = value; last = pid }
+-- ---- the tries of those who wait are by their operations
 
--- ---- one operation
+same_try : (set : SemaphoreSet) (pid : ℕ) (call : Call) → IsShortOp call
+    → try_steps set pid call ≡ try_set set pid call
+same_try set pid (calls.SemOp id steps) h = refl
+same_try set pid call h = absurd h
 
--- where the first operation can't go on, nothing is carried out
-pub carried_stops : (pid : ℕ) (row : List Semaphore) (steps : List SemStep) (step : SemStep) (rest : List SemStep)
-    (s : Semaphore) (e : Errno) → steps ≡ step ∷ rest → step.num < length row → s ≡ get_or row step.num s
-    → Err e ≡ answer_of (move_by step.add s.value) → carried pid row steps ≡ Err e
-carried_stops pid row steps step rest s e split inside s_is moved =
-    let there : slice_get row step.num ≡ Some s = slice_get_read row (length row) step.num s refl inside s_is in
-    let stops : answer_of (move_by step.add s.value) ≡ Err e = sym moved in
-    rw (split, there, stops) refl
+same_first : (set : SemaphoreSet) (ws : List Waiting) → AllByRecursion IsSetWaiter ws
+    → first_ready try_steps set ws ≡ first_ready try_set set ws
+same_first set [] h = refl
+same_first set (w ∷ ws) h =
+    let first = h.0 in
+    ap (λ (o : Option (Attempt SemaphoreSet)). ready_or w ws o (first_ready try_steps set ws))
+    (same_try set w.pid w.call first.call)
+    ∙ ap (ready_or w ws (try_set set w.pid w.call)) (same_first set ws h.1)
 
--- where the first operation goes on, the others are carried out on what it leaves
-pub carried_on : (pid : ℕ) (row : List Semaphore) (steps : List SemStep) (step : SemStep) (rest : List SemStep)
-    (s : Semaphore) (value : ℕ) → steps ≡ step ∷ rest → step.num < length row → s ≡ get_or row step.num s
-    → Ok value ≡ answer_of (move_by step.add s.value)
-    → carried pid row steps ≡ carried pid (set row step.num (made pid value)) rest
-carried_on pid row steps step rest s value split inside s_is moved =
-    let there : slice_get row step.num ≡ Some s = slice_get_read row (length row) step.num s refl inside s_is in
-    let goes : answer_of (move_by step.add s.value) ≡ Ok value = sym moved in
-    rw (split, there, goes) refl
+same_on : (n : ℕ) (object : Awaited SemaphoreSet) (o : Option (Ready SemaphoreSet))
+    → OthersHave (AllByRecursion IsSetWaiter) o
+    → ((rest : Awaited SemaphoreSet) → AllByRecursion IsSetWaiter rest.waiters
+    → settle_by n try_steps rest ≡ settle_by n try_set rest)
+    → settle_on object o (settle_by n try_steps) ≡ settle_on object o (settle_by n try_set)
+same_on n object None others rec = refl
+same_on n object (Some r) others rec =
+    ap (woken_first (wake r.waiter r.attempt.reply)) (rec (awaited r.attempt.state r.others) others)
 
--- where there are no others, that is all
-pub carried_last : (pid : ℕ) (row : List Semaphore) (steps : List SemStep) (step : SemStep) (rest : List SemStep)
-    (s : Semaphore) (value : ℕ) → steps ≡ step ∷ rest → rest ≡ [] → step.num < length row → s ≡ get_or row step.num s
-    → Ok value ≡ answer_of (move_by step.add s.value)
-    → carried pid row steps ≡ Ok (set row step.num (made pid value))
-carried_last pid row steps step rest s value split none inside s_is moved =
-    carried_on pid row steps step rest s value split inside s_is moved
-    ∙ ap (carried pid (set row step.num (made pid value))) none
+same_rounds : (n : ℕ) (object : Awaited SemaphoreSet) → AllByRecursion IsSetWaiter object.waiters
+    → settle_by n try_steps object ≡ settle_by n try_set object
+same_rounds zero object h = refl
+same_rounds (suc n) object h =
+    ap (λ (o : Option (Ready SemaphoreSet)). settle_on object o (settle_by n try_steps))
+    (same_first object.state object.waiters h)
+    ∙ same_on n object (first_ready try_set object.state object.waiters)
+    (all_others IsSetWaiter try_set object.state object.waiters h) (λ rest each. same_rounds n rest each)
 
--- what was changed and is put back
-pub restored : {X : Type 0} (xs : List X) (i : ℕ) (x y : X) → i < length xs → x ≡ get_or xs i x
-    → set (set xs i y) i x ≡ xs
-restored [] i x y lt is = absurd (omega arith)
-restored {X} (z ∷ xs) zero x y lt is = ap (λ (h : X). h ∷ xs) is
-restored {X} (z ∷ xs) (suc i) x y lt is = ap (λ (t : List X). z ∷ t) (restored xs i x y (omega arith) is)
+same_settle : (object : Awaited SemaphoreSet) → AllByRecursion IsSetWaiter object.waiters
+    → settle try_steps object ≡ settle try_set object
+same_settle object h = same_rounds (length object.waiters) object h
 
--- ---- all operations
+-- ---- a call that has its reply, and one that parks
 
-same_values : (row : List Semaphore) → with_values row (values_of row) ≡ row
-same_values [] = refl
-same_values (s ∷ row) = ap (λ (t : List Semaphore). s ∷ t) (same_values row)
+-- a call that has its reply, and whom it wakes
+pub replies : (old mid new : SemaphoreSet) (nodes left : List (Node Waiting)) (who : Waiting) (reply : Reply)
+    (wakes : List Wake) → try_set old who.pid who.call ≡ Some (attempt mid reply)
+    → AllByRecursion IsSetWaiter (waiters_in nodes) → settle try_steps (held mid nodes) ≡ settled (held new left) wakes
+    → carry_out try_set (held old nodes) who ≡ carried_to (held new left) (record { own = Some reply; wakes = wakes })
+replies old mid new nodes left who reply wakes goes each is =
+    ap (carry_out_by try_set (held old nodes) who) goes
+    ∙ ap (λ (s : Settled SemaphoreSet). replied reply s) (sym (same_settle (held mid nodes) each) ∙ is)
 
-values_set : (row : List Semaphore) (n : ℕ) (s : Semaphore) → values_of (set row n s) ≡ set (values_of row) n s.value
-values_set [] n s = refl
-values_set (x ∷ row) zero s = refl
-values_set (x ∷ row) (suc n) s = ap (λ (t : List ℕ). x.value ∷ t) (values_set row n s)
+pub parks : (old new : SemaphoreSet) (nodes left : List (Node Waiting)) (who : Waiting) (applied : Applied)
+    → try_set old who.pid who.call ≡ None → new ≡ old → applied ≡ record { own = None; wakes = [] }
+    → waiters_in left ≡ waiters_in nodes ++ who ∷ []
+    → carry_out try_set (held old nodes) who ≡ carried_to (held new left) applied
+parks old new nodes left who applied waits same is behind =
+    ap (carry_out_by try_set (held old nodes) who) waits
+    ∙ rw (same, is, behind) refl
 
-value_at : (row : List Semaphore) (n : ℕ)
-    → slice_get (values_of row) n ≡ option_map (λ (s : Semaphore). s.value) (slice_get row n)
-value_at [] n = refl
-value_at (x ∷ row) zero = refl
-value_at (x ∷ row) (suc n) = value_at row n
+-- ---- a look
 
-mark_later : (s : Semaphore) (row : List Semaphore) (pid n : ℕ) (o : Option Semaphore)
-    → mark_at (s ∷ row) pid (suc n) o ≡ s ∷ mark_at row pid n o
-mark_later s row pid n None = refl
-mark_later s row pid n (Some x) = refl
+seen : (state : SemaphoreSet) (r : Result ℕ Errno) → looked_up state r ≡ attempt state (reply_to r)
+seen state (Ok n) = refl
+seen state (Err e) = refl
 
-marked : (row : List Semaphore) (values : List ℕ) (pid n value : ℕ) → n < length row → length values ≡ length row
-    → mark_at (with_values row values) pid n (slice_get (with_values row values) n)
-    ≡ with_values (set row n (made pid value)) values
-marked [] values pid n value lt len = absurd (omega arith)
-marked (s ∷ row) [] pid n value lt len = absurd (omega arith)
-marked (s ∷ row) (x ∷ values) pid zero value lt len = refl
-marked (s ∷ row) (x ∷ values) pid (suc n) value lt len =
-    mark_later (record s { value = x }) (with_values row values) pid n (slice_get (with_values row values) n)
-    ∙ ap (λ (t : List Semaphore). record s { value = x } ∷ t)
-    (marked row values pid n value (omega arith) (omega arith))
+look_carried : (set : Awaited SemaphoreSet) (who : Waiting) (reply : Reply) → IsSettled try_set set
+    → try_set set.state who.pid who.call ≡ Some (attempt set.state reply)
+    → carry_out try_set set who ≡ carried_to set (record { own = Some reply; wakes = [] })
+look_carried set who reply settled goes =
+    ap (carry_out_by try_set set who) goes
+    ∙ ap (λ (s : Settled SemaphoreSet). replied reply s) (settle_rests try_set set settled)
 
--- a trial leaves as many values as there were
-abbrev done : List ℕ → Tried
-done values = Done values
+some_reply : (a b : Reply) → Some a ≡ Some b → a ≡ b
+some_reply a b e = cc
 
-same_done : (a b : List ℕ) → done a ≡ done b → a ≡ b
-same_done a b e = cc
+looks_by : (set : Awaited SemaphoreSet) (who : Waiting) (reply : Reply) (call : Call) → who.call ≡ call
+    → IsSettled try_set set → look_reply set call ≡ Some reply
+    → carry_out_on_set_by set who call ≡ carried_to set (record { own = Some reply; wakes = [] })
+looks_by set who reply (calls.SemGetNcnt id num) is settled e =
+    ap (λ (r : Reply). carried_to set (record { own = Some r; wakes = [] }))
+    (some_reply (counted_reply Negative num set) reply e)
+looks_by set who reply (calls.SemGetZcnt id num) is settled e =
+    ap (λ (r : Reply). carried_to set (record { own = Some r; wakes = [] }))
+    (some_reply (counted_reply Zero num set) reply e)
+looks_by set who reply (calls.SemGetVal id num) is settled e =
+    look_carried set who reply settled
+    (ap (try_set set.state who.pid) is
+    ∙ (ap (λ (a : Attempt SemaphoreSet). Some a) (seen set.state (value_at set.state num))
+    ∙ ap (λ (r : Reply). Some (attempt set.state r)) (some_reply (reply_to (value_at set.state num)) reply e)))
+looks_by set who reply (calls.SemGetPid id num) is settled e =
+    look_carried set who reply settled
+    (ap (try_set set.state who.pid) is
+    ∙ (ap (λ (a : Attempt SemaphoreSet). Some a) (seen set.state (last_at set.state num))
+    ∙ ap (λ (r : Reply). Some (attempt set.state r)) (some_reply (reply_to (last_at set.state num)) reply e)))
+looks_by set who reply (calls.SemGetAll id) is settled e =
+    look_carried set who reply settled
+    (ap (try_set set.state who.pid) is
+    ∙ ap (λ (r : Reply). Some (attempt set.state r)) (some_reply (All (values_of set.state.semaphores)) reply e))
+looks_by set who reply call is settled e = absurd (cc)
 
-went_on : (size i num : ℕ) (values : List ℕ) (m : Moved) (rest : List ℕ → Tried) (out : List ℕ)
-    → length values ≡ size → ((next : List ℕ) → length next ≡ size → rest next ≡ Done out → length out ≡ size)
-    → go_on i values num m rest ≡ Done out → length out ≡ size
-went_on size i num values (To value) rest out len further e =
-    further (set values num value) (length-set values num value ∙ len) e
-went_on size i num values Waits rest out len further e = absurd cc
-went_on size i num values TooHigh rest out len further e = absurd cc
+-- a look leaves all as it is
+pub looks : (set : Awaited SemaphoreSet) (who : Waiting) (o : Option Reply) (reply : Reply) → IsSettled try_set set
+    → o ≡ look_reply set who.call → o ≡ Some reply
+    → carry_out_on_set set who ≡ carried_to set (record { own = Some reply; wakes = [] })
+looks set who o reply settled is some = looks_by set who reply who.call refl settled (sym is ∙ some)
 
-tried_length : (size i : ℕ) (values : List ℕ) (steps : List SemStep) (out : List ℕ) → length values ≡ size
-    → try_from i values steps ≡ Done out → length out ≡ size
-tried_length size i values [] out len e = subst (λ (x : List ℕ). length x ≡ size) (same_done values out e) len
-tried_length size i values (step ∷ steps) out len e =
-    went_on size i step.num values (move_at step.add (slice_get values step.num))
-    (λ next. try_from (i + 1) next steps) out len
-    (λ next same. tried_length size (i + 1) next steps out same) e
+-- ---- a call that is no look
 
--- the mark of the first operation may be made before the others
-marked_first : (row : List Semaphore) (pid value : ℕ) (step : SemStep) (steps : List SemStep) (t : Tried)
-    → step.num < length row → ((values : List ℕ) → t ≡ Done values → length values ≡ length row)
-    → op_after_trial (set_of row) pid (step ∷ steps) t
-    ≡ op_after_trial (set_of (set row step.num (made pid value))) pid steps t
-marked_first row pid value step steps (Done values) inside len =
-    ap (λ (r : List Semaphore). Ok (set_of (fold (mark pid) r steps)))
-    (marked row values pid step.num value inside (len values refl))
-marked_first row pid value step steps (StopsAt index) inside len = refl
-marked_first row pid value step steps OutOfRange inside len = refl
+other_by : (set : Awaited SemaphoreSet) (who : Waiting) (call : Call) → look_reply set call ≡ None
+    → carry_out_on_set_by set who call ≡ carry_out try_set set who
+other_by set who (calls.SemGetNcnt id num) e = absurd (cc)
+other_by set who (calls.SemGetZcnt id num) e = absurd (cc)
+other_by set who call e = refl
 
-abbrev pub as_set : Result (List Semaphore) Errno → Result SemaphoreSet Errno
-as_set (Ok row) = Ok (set_of row)
-as_set (Err e) = Err e
+other : (set : Awaited SemaphoreSet) (who : Waiting) (o : Option Reply) → o ≡ look_reply set who.call → o ≡ None
+    → carry_out_on_set set who ≡ carry_out try_set set who
+other set who o is none = other_by set who who.call (sym is ∙ none)
 
-stepped : (pid i : ℕ) (row : List Semaphore) (step : SemStep) (steps : List SemStep) (m : Moved)
-    → step.num < length row
-    → ((value : ℕ) → op_after_trial (set_of (set row step.num (made pid value))) pid steps
-    (try_from (i + 1) (values_of (set row step.num (made pid value))) steps)
-    ≡ as_set (carried pid (set row step.num (made pid value)) steps))
-    → op_after_trial (set_of row) pid (step ∷ steps)
-    (go_on i (values_of row) step.num m (λ next. try_from (i + 1) next steps))
-    ≡ as_set (on_value (answer_of m) (λ value. carried pid (set row step.num (made pid value)) steps))
-stepped pid i row step steps (To value) inside ih =
-    marked_first row pid value step steps (try_from (i + 1) (set (values_of row) step.num value) steps) inside
-    (λ values. tried_length (length row) (i + 1) (set (values_of row) step.num value) steps values
-    (length-set (values_of row) step.num value ∙ length-map row (λ (s : Semaphore). s.value)))
-    ∙ ap (λ (vs : List ℕ). op_after_trial (set_of (set row step.num (made pid value))) pid steps
-    (try_from (i + 1) vs steps)) (sym (values_set row step.num (made pid value)))
-    ∙ ih value
-stepped pid i row step steps Waits inside ih = refl
-stepped pid i row step steps TooHigh inside ih = refl
+no_look_by : (set : Awaited SemaphoreSet) (call : Call) → look_reply set call ≡ None → is_look call ≡ false
+no_look_by set (calls.SemGetVal id num) e = absurd (cc)
+no_look_by set (calls.SemGetPid id num) e = absurd (cc)
+no_look_by set (calls.SemGetNcnt id num) e = absurd (cc)
+no_look_by set (calls.SemGetZcnt id num) e = absurd (cc)
+no_look_by set (calls.SemGetAll id) e = absurd (cc)
+no_look_by set call e = refl
 
-inside_of : (size n len : ℕ) → len ≡ size → leb size n ≡ false → n < len
-inside_of size n len same e = grind (arith, nat_tests)
+pub no_look : (set : Awaited SemaphoreSet) (call : Call) (o : Option Reply) → o ≡ look_reply set call → o ≡ None
+    → is_look call ≡ false
+no_look set call o is none = no_look_by set call (sym is ∙ none)
 
-pub carried_is : (pid i size : ℕ) (row : List Semaphore) (steps : List SemStep) → length row ≡ size
-    → list_any (λ (step : SemStep). leb size step.num) steps ≡ false
-    → op_after_trial (set_of row) pid steps (try_from i (values_of row) steps) ≡ as_set (carried pid row steps)
-carried_is pid i size row [] len none = ap (λ (r : List Semaphore). Ok (set_of r)) (same_values row)
-carried_is pid i size row (step ∷ steps) len none =
-    let both = or_parts (leb size step.num) (list_any (λ (s : SemStep). leb size s.num) steps) none in
-    let inside : step.num < length row = inside_of size step.num (length row) len both.0 in
-    ap (λ (o : Option ℕ). op_after_trial (set_of row) pid (step ∷ steps)
-    (go_on i (values_of row) step.num (move_at step.add o) (λ next. try_from (i + 1) next steps)))
-    (value_at row step.num)
-    ∙ stepped pid i row step steps
-    (move_at step.add (option_map (λ (s : Semaphore). s.value) (slice_get row step.num))) inside
-    (λ value. carried_is pid (i + 1) size (set row step.num (made pid value)) steps
-    (length-set row step.num (made pid value) ∙ len) both.1)
+-- as whatever comes of the call tells it
+pub other_carried : {E : Type 0} (r : Result Applied E) (old mid new : SemaphoreSet) (nodes left : List (Node Waiting))
+    (who : Waiting) (o : Option Reply) → o ≡ look_reply (held old nodes) who.call → o ≡ None → mid ≡ old
+    → IfOk r (λ applied. carry_out try_set (held mid nodes) who ≡ carried_to (held new left) applied)
+    → IfOk r (λ applied. carry_out_on_set (held old nodes) who ≡ carried_to (held new left) applied)
+other_carried (Ok applied) old mid new nodes left who o is none same told =
+    other (held old nodes) who o is none
+    ∙ (ap (λ (x : SemaphoreSet). carry_out try_set (held x nodes) who) (sym same) ∙ told)
+other_carried (Err e) old mid new nodes left who o is none same told = tt
 
--- ---- a first operation and the rest
+-- ---- a set is at rest after a call
 
-abbrev AllInside : ℕ → List SemStep → Type 0
-AllInside size steps = (i : ℕ) (d : SemStep) → i < length steps → (get_or steps i d).num < size
+first_true : (a b : Bool) → (a && b) ≡ true → a ≡ true
+first_true true b e = refl
+first_true false b e = absurd (cc)
 
--- the first operation is on a semaphore of the set
-pub first_inside : (size : ℕ) (steps : List SemStep) (step : SemStep) (rest : List SemStep) → steps ≡ step ∷ rest
-    → AllInside size steps → step.num < size
-first_inside size steps step rest is all = subst (AllInside size) is all 0 step (omega arith)
+stopped_true : (b : Bool) (a : Attempt SemaphoreSet) → cond b None (Some a) ≡ None → b ≡ true
+stopped_true true a e = refl
+stopped_true false a e = absurd (cc)
 
--- so are the others
-pub rest_inside : (size same : ℕ) (steps : List SemStep) (step : SemStep) (rest : List SemStep) → steps ≡ step ∷ rest
-    → same ≡ size → AllInside size steps → AllInside same rest
-rest_inside size same steps step rest is sized all i d lt =
-    subst (λ (n : ℕ). (get_or rest i d).num < n) (sym sized) (subst (AllInside size) is all (suc i) d (omega arith))
+-- what has to wait is a semop of few operations
+short_of : (set : SemaphoreSet) (pid : ℕ) (call : Call) → try_set set pid call ≡ None → IsShortOp call
+short_of set pid (calls.SemOp id steps) e =
+    let waits = stopped_true (are_tried set steps && waits_for (stop_of set steps))
+    (changed set (op set pid steps)) e in
+    leb-true (length steps) max_operations
+    (first_true _ _ (first_true (are_tried set steps) (waits_for (stop_of set steps)) waits))
+short_of set pid call e = absurd (cc)
 
--- where the others are refused, the semaphore of the first is put back
-pub put_back : {E : Type 0} (r : Result E Errno) (row new : List Semaphore) (i : ℕ) (x y : Semaphore) → i < length row
-    → x ≡ get_or row i x → OnErr r (new ≡ set row i y) → OnErr r (set new i x ≡ row)
-put_back (Ok e) row new i x y lt is h = tt
-put_back (Err e) row new i x y lt is h = ap (λ (r : List Semaphore). set r i x) h ∙ restored row i x y lt is
+rests_by : (old : Awaited SemaphoreSet) (who : Waiting) (o : Option (Attempt SemaphoreSet))
+    → try_set old.state who.pid who.call ≡ o → IsAtRest old → 1 ≤ who.ticket → waits_here who.pid old ≡ false
+    → length old.waiters < max_waiters → IsAtRest (carry_out_by try_set old who o).object
+rests_by old who None is h ticket apart few =
+    record {
+      limits = h.limits;
+      waiters = may_behind old.waiters who h.waiters few
+          (record { ticket = ticket; call = short_of old.state who.pid who.call is }) apart;
+      settled = all_behind (λ w. try_set old.state w.pid w.call ≡ None) old.waiters who h.settled is;
+    }
+rests_by old who (Some a) is h ticket apart few =
+    let start : Awaited SemaphoreSet = awaited a.state old.waiters in
+    let so = settling_keeps IsWithinLimits (length old.waiters) try_set start try_within
+    (record { state = try_within old.state who.pid who.call a h.limits is; waiters = h.waiters }) in
+    record { limits = so.state; waiters = so.waiters; settled = settled_whole try_set start }
 
--- ---- semop
+rests_on : (old : Awaited SemaphoreSet) (who : Waiting) (call : Call) → IsAtRest old → 1 ≤ who.ticket
+    → waits_here who.pid old ≡ false → length old.waiters < max_waiters
+    → IsAtRest (carry_out_on_set_by old who call).object
+rests_on old who (calls.SemGetNcnt id num) h ticket apart few = h
+rests_on old who (calls.SemGetZcnt id num) h ticket apart few = h
+rests_on old who call h ticket apart few =
+    rests_by old who (try_set old.state who.pid who.call) refl h ticket apart few
 
--- what is carried out one by one is semop's answer
-pub op_carried : (pid : ℕ) (row : List Semaphore) (steps : List SemStep) → length steps ≤ max_operations
-    → list_any (λ (step : SemStep). leb (length row) step.num) steps ≡ false
-    → op (set_of row) pid steps ≡ as_set (carried pid row steps)
-op_carried pid row steps few none =
-    let fits : ltb max_operations (length steps) ≡ false = grind (arith, nat_tests) in
-    rw (fits, none) (carried_is pid 0 (length row) row steps refl none)
+pub rests_after : (old new : Awaited SemaphoreSet) (who : Waiting) (applied : Applied)
+    → carry_out_on_set old who ≡ carried_to new applied → IsAtRest old → 1 ≤ who.ticket
+    → waits_here who.pid old ≡ false → length old.waiters < max_waiters → IsAtRest new
+rests_after old new who applied is h ticket apart few =
+    let same : (carry_out_on_set old who).object ≡ new = ap (λ (c : Carried SemaphoreSet). c.object) is in
+    subst IsAtRest same (rests_on old who who.call h ticket apart few)
 
--- what was carried out is what semop leaves
-pub done_as : {E : Type 0} (r : Result E Errno) (answer : Result SemaphoreSet Errno)
-    (left : Result (List Semaphore) Errno) (new : List Semaphore) → answer ≡ as_set left → OnOk r (left ≡ Ok new)
-    → IfOk r (λ _. answer ≡ Ok (set_of new))
-done_as (Ok x) answer left new is h = is ∙ ap as_set h
-done_as (Err e) answer left new is h = tt
-
--- what refused is what semop's answer is
-pub refused_as : {E : Type 0} (r : Result E Errno) (answer : Result SemaphoreSet Errno)
-    (left : Result (List Semaphore) Errno) → answer ≡ as_set left → IfErr r (λ e. left ≡ Err e)
-    → IfErr r (λ e. answer ≡ Err e)
-refused_as (Ok x) answer left is h = tt
-refused_as (Err e) answer left is h = is ∙ ap as_set h
+-- whether it is carried out or refused for want of memory
+pub rests_then : {E : Type 0} (r : Result Applied E) (old new : SemaphoreSet) (nodes left : List (Node Waiting))
+    (who : Waiting) → IfOk r (λ applied. carry_out_on_set (held old nodes) who ≡ carried_to (held new left) applied)
+    → OnErr r (new ≡ old) → OnErr r (left ≡ nodes) → IsAtRest (held old nodes) → 1 ≤ who.ticket
+    → waits_here who.pid (held old nodes) ≡ false → length (held old nodes).waiters < max_waiters
+    → IsAtRest (held new left)
+rests_then (Ok applied) old new nodes left who is same alike h ticket apart few =
+    rests_after (held old nodes) (held new left) who applied is h ticket apart few
+rests_then (Err e) old new nodes left who is same alike h ticket apart few = rw (same, alike) h

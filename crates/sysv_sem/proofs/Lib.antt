@@ -1,6 +1,16 @@
+pub mod Bodies
+pub mod Calls
 pub mod Carried
-mod Examples
-pub mod Places
-pub mod Rows
-pub mod Semaphores
+pub mod Kept
+pub mod OneByOne
+pub mod Ops
+pub mod Packing
+pub mod Removed
+pub mod Rounds
+pub mod Taking
+pub mod Told
+pub mod Trials
+pub mod Walk
 pub mod Within
+pub mod Writes
+pub mod Passing

@@ -1,13 +1,18 @@
 -- What is carried out on a set within the limits leaves one.
-use Rattle.std.proofs.Common.{◌≡◌, ℕ, zero, suc, ◌+◌, ◌-◌, ◌≤◌, Bool, true, false, cond, eqb, ltb, leb, ℤ, pos, negsuc, List, [], ◌∷◌, Option, Some, None, Result, Ok, Err, ◌++◌, take, drop, length, set, refl, sym, ap, subst, ◌∙◌, arith}
-use Rattle.std.specs.Prelude.{fold, slice_get, IfOk, IfSome, OnErr}
+use Rattle.std.proofs.Common.{◌≡◌, ℕ, zero, suc, ◌+◌, ◌-◌, ◌≤◌, Bool, true, false, ◌&&◌, cond, eqb, ltb, leb, ℤ, pos, negsuc, List, [], ◌∷◌, Option, Some, None, Result, Ok, Err, length, set, refl, sym, ap, subst, ◌∙◌, arith}
+use Rattle.std.specs.Prelude.{fold, slice_get, IfSome, replicate}
 use Rattle.std.specs.List.{AllByRecursion, list_any}
 use Rattle.std.proofs.lemmas.Bool.{leb-true, ltb-false, eqb-true, or_parts}
-use Rattle.std.proofs.lemmas.List.{length-set, length-map, take_at}
+use Rattle.std.proofs.lemmas.List.{length-set, length-map}
 use Rattle.pico_base.specs.declared.call.SemStep.{SemStep}
 use Rattle.pico_base.specs.declared.reply.Errno.{Errno}
 use Rattle.pico_base.specs.declared.reply.Errno.TheVariants.{Einval, E2big, Efbig, Erange}
-use Rattle.kernel_model.specs.SemaphoreSet.{Semaphore, SemaphoreSet, set_of, Moved, To, Waits, TooHigh, Tried, Done, StopsAt, OutOfRange, max_value, values_of, move_by, move_at, go_on, try_from, try_ops, with_values, with_last, mark_at, mark, op_after_trial, op, set_all}
+use Rattle.kernel_model.specs.SemaphoreSet.{Semaphore, SemaphoreSet, set_of, Moved, To, Waits, TooHigh, Tried, Done, StopsAt, OutOfRange, max_value, values_of, move_by, move_at, go_on, try_from, try_ops, with_values, with_last, mark_at, mark, op_after_trial, op, set_value_at, set_value, set_all, value_at, last_at, new_semaphore, max_semaphores}
+use Rattle.pico_base.specs.declared.call.Call.{Call}
+use Rattle.pico_base.specs.declared.call.Call.TheVariants as calls
+use Rattle.pico_base.specs.declared.reply.Reply.TheVariants.{Num, Fail}
+use Rattle.waiting_model.specs.Waiters.{Attempt, attempt, changed, looked_up}
+use Rattle.waiting_model.specs.SemaphoreSet.{are_tried, stop_of, waits_for, try_op, try_set}
 use Rattle.sysv_sem.specs.Limits.{IsWithinLimits}
 
 -- ---- an element of a list
@@ -150,7 +155,8 @@ tried_op_within old new pid steps (Done values) fine e h =
 tried_op_within old new pid steps (StopsAt index) fine e h = absurd cc
 tried_op_within old new pid steps OutOfRange fine e h = absurd cc
 
-op_within : (old : List Semaphore) (new : SemaphoreSet) (pid : ℕ) (steps : List SemStep)
+-- after a `semop`
+pub op_within : (old : List Semaphore) (new : SemaphoreSet) (pid : ℕ) (steps : List SemStep)
     → op (set_of old) pid steps ≡ Ok new → IsWithinLimits (set_of old) → IsWithinLimits new
 op_within old new pid steps e h =
     let tried : op_after_trial (set_of old) pid steps (try_ops (values_of old) steps) ≡ Ok new =
@@ -177,7 +183,9 @@ upto (value ∷ values) e =
     let both = or_parts (ltb max_value value) (list_any (ltb max_value) values) e in
     (ltb-false _ _ both.0, upto values both.1)
 
-set_all_within : (old : List Semaphore) (new : SemaphoreSet) (values : List ℕ) → set_all (set_of old) values ≡ Ok new
+-- after a SETALL
+pub set_all_within : (old : List Semaphore) (new : SemaphoreSet) (values : List ℕ)
+    → set_all (set_of old) values ≡ Ok new
     → IsWithinLimits (set_of old) → IsWithinLimits new
 set_all_within old new values e h =
     let a = passed_to (eqb (length values) (length old)) Einval _ new e in
@@ -186,38 +194,77 @@ set_all_within old new values e h =
     subst IsWithinLimits (same_made (set_of (with_values old values)) new b.1)
     (same_size old (with_values old values) fine.1 fine.0 h)
 
-kept_by_op : {E : Type 0} (r : Result E Errno) (old new : List Semaphore) (pid : ℕ) (steps : List SemStep)
-    → IfOk r (λ _. op (set_of old) pid steps ≡ Ok (set_of new)) → OnErr r (new ≡ old) → IsWithinLimits (set_of old)
-    → IsWithinLimits (set_of new)
-kept_by_op (Ok x) old new pid steps done same h = op_within old (set_of new) pid steps done h
-kept_by_op (Err e) old new pid steps done same h =
-    subst (λ (x : List Semaphore). IsWithinLimits (set_of x)) (sym same) h
+-- after a SETVAL
+pub set_value_within : (old : List Semaphore) (new : SemaphoreSet) (num value : ℕ)
+    → set_value (set_of old) num value ≡ Ok new → IsWithinLimits (set_of old) → IsWithinLimits new
+set_value_within old new num value e h = here (slice_get old num) e
+  where
+    here : (o : Option Semaphore) → set_value_at (set_of old) num value o ≡ Ok new → IsWithinLimits new
+    here None e = absurd cc
+    here (Some s) e =
+        let changed_one : Semaphore = record s { value = value } in
+        let b = failed (ltb max_value value) Erange (Ok (set_of (set old num changed_one))) new e in
+        subst IsWithinLimits (same_made (set_of (set old num changed_one)) new b.1)
+        (same_size old (set old num changed_one) (length-set old num changed_one)
+        (each_set IsFine old num changed_one h.each (ltb-false _ _ b.0)) h)
 
-kept_by_set_all : {E : Type 0} (r : Result E Errno) (old new : List Semaphore) (values : List ℕ)
-    → IfOk r (λ _. set_all (set_of old) values ≡ Ok (set_of new)) → OnErr r (new ≡ old) → IsWithinLimits (set_of old)
-    → IsWithinLimits (set_of new)
-kept_by_set_all (Ok x) old new values done same h = set_all_within old (set_of new) values done h
-kept_by_set_all (Err e) old new values done same h =
-    subst (λ (x : List Semaphore). IsWithinLimits (set_of x)) (sym same) h
+-- a new one
+pub new_within : (count : ℕ) → 1 ≤ count → count ≤ max_semaphores
+    → IsWithinLimits (set_of (replicate count new_semaphore))
+new_within count some few =
+    record {
+      some = omega (arith, some, size count);
+      count = omega (arith, few, size count);
+      each = all_new count;
+    }
+  where
+    size : (n : ℕ) → length (replicate n new_semaphore) ≡ n
+    size zero = refl
+    size (suc n) = ap suc (size n)
 
--- what a slice of a list's whole length leaves
-rejoined : {X : Type 0} (size : ℕ) (xs ys : List X) → length xs ≡ size → take size (xs ++ drop (length xs) ys) ≡ xs
-rejoined size xs ys len = take_at xs (drop (length xs) ys) size len
+    all_new : (n : ℕ) → AllByRecursion IsFine (replicate n new_semaphore)
+    all_new zero = tt
+    all_new (suc n) = (omega arith, all_new n)
 
-abbrev whole : {X : Type 0} → ℕ → List X → List X → List X
-whole size xs ys = take size (xs ++ drop (length xs) ys)
+-- ---- tries
 
--- a set after `semop` is within its limits
-pub set_after_op : {E : Type 0} (r : Result E Errno) (old new : List Semaphore) (pid : ℕ) (steps : List SemStep)
-    (size : ℕ)
-    → IfOk r (λ _. op (set_of old) pid steps ≡ Ok (set_of new)) → OnErr r (new ≡ old) → length old ≡ size
-    → length new ≡ length old → IsWithinLimits (set_of old) → IsWithinLimits (set_of (whole size new old))
-set_after_op r old new pid steps size done same size_is len h =
-    rw (rejoined size new old (omega arith)) (kept_by_op r old new pid steps done same h)
+some_attempt : (a b : Attempt SemaphoreSet) → Some a ≡ Some b → a ≡ b
+some_attempt a b e = cc
 
--- a set after SETALL is within its limits
-pub set_after_set_all : {E : Type 0} (r : Result E Errno) (old new : List Semaphore) (values : List ℕ) (size : ℕ)
-    → IfOk r (λ _. set_all (set_of old) values ≡ Ok (set_of new)) → OnErr r (new ≡ old) → length old ≡ size
-    → length new ≡ length old → IsWithinLimits (set_of old) → IsWithinLimits (set_of (whole size new old))
-set_after_set_all r old new values size done same size_is len h =
-    rw (rejoined size new old (omega arith)) (kept_by_set_all r old new values done same h)
+changed_within : (state : SemaphoreSet) (r : Result SemaphoreSet Errno) (a : Attempt SemaphoreSet)
+    → IsWithinLimits state → ((new : SemaphoreSet) → r ≡ Ok new → IsWithinLimits new)
+    → Some (changed state r) ≡ Some a → IsWithinLimits a.state
+changed_within state (Ok new) a h fine e =
+    subst (λ (x : Attempt SemaphoreSet). IsWithinLimits x.state) (some_attempt (attempt new (Num 0)) a e)
+    (fine new refl)
+changed_within state (Err errno) a h fine e =
+    subst (λ (x : Attempt SemaphoreSet). IsWithinLimits x.state) (some_attempt (attempt state (Fail errno)) a e) h
+
+seen_within : (state : SemaphoreSet) (r : Result ℕ Errno) (a : Attempt SemaphoreSet) → IsWithinLimits state
+    → Some (looked_up state r) ≡ Some a → IsWithinLimits a.state
+seen_within state (Ok n) a h e =
+    subst (λ (x : Attempt SemaphoreSet). IsWithinLimits x.state) (some_attempt (attempt state (Num n)) a e) h
+seen_within state (Err errno) a h e =
+    subst (λ (x : Attempt SemaphoreSet). IsWithinLimits x.state) (some_attempt (attempt state (Fail errno)) a e) h
+
+went_on_at : (b : Bool) (x y : Attempt SemaphoreSet) → cond b None (Some x) ≡ Some y → Some x ≡ Some y
+went_on_at true x y e = absurd cc
+went_on_at false x y e = e
+
+-- whatever comes of a try is within the limits
+pub try_within : (state : SemaphoreSet) (pid : ℕ) (call : Call) (a : Attempt SemaphoreSet) → IsWithinLimits state
+    → try_set state pid call ≡ Some a → IsWithinLimits a.state
+try_within state pid (calls.SemOp id steps) a h e =
+    changed_within state (op state pid steps) a h
+    (λ new is. op_within state.semaphores new pid steps is h)
+    (went_on_at (are_tried state steps && waits_for (stop_of state steps)) (changed state (op state pid steps)) a e)
+try_within state pid (calls.SemGetVal id num) a h e = seen_within state (value_at state num) a h e
+try_within state pid (calls.SemGetPid id num) a h e = seen_within state (last_at state num) a h e
+try_within state pid (calls.SemSetVal id num value) a h e =
+    changed_within state (set_value state num value) a h
+    (λ new is. set_value_within state.semaphores new num value is h) e
+try_within state pid (calls.SemSetAll id values) a h e =
+    changed_within state (set_all state values) a h
+    (λ new is. set_all_within state.semaphores new values is h) e
+try_within state pid call a h e =
+    subst (λ (x : Attempt SemaphoreSet). IsWithinLimits x.state) (some_attempt _ a e) h

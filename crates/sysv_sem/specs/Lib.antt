@@ -1,5 +1,9 @@
-pub mod Answers
 pub mod Body
+pub mod Calls
 pub mod Limits
-pub mod Places
+pub mod OneByOne
 pub mod Reading
+pub mod Settling
+pub mod Trial
+pub mod Waiters
+pub mod Passing

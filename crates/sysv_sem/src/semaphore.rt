@@ -1,4 +1,6 @@
 //! One semaphore: its value, and the last process that operated on it.
+ghost use Rattle.std.specs.Prelude.{◌≡◌};
+
 use pico_base::Pid;
 use std::marker::Model;
 
@@ -18,4 +20,13 @@ impl Model for Semaphore {
     ghost view = { λ s. record { value = s.value; last = s.last } };
 
     ghost inverse = { λ s. record { value = s.value; last = s.last } };
+}
+
+impl Semaphore {
+    /// The value.
+    pub(crate) fn value(&self) -> u32
+        ensures { result ≡ self.now.value }
+    {
+        self.value
+    }
 }

@@ -1,53 +1,93 @@
-//! The operations of a `semop` in order, each undone again where a later one can't go on.
-ghost use Rattle.std.specs.Prelude.{◌≡◌, ◌<◌, length, All, Ok, Err, IfErr, OnOk, OnErr};
+//! The trial of a `semop`: its operations in order, on a copy of the values.
+ghost use Rattle.std.specs.Prelude.{◌≡◌, Ok, Err, MatchResult, vec_len};
 ghost use Rattle.kernel_model.specs.SemaphoreSet as definition;
-ghost use Rattle.sysv_sem.specs.Answers.{answer_of, carried};
+ghost use Rattle.kernel_model.specs.Waiting.{may_wait};
+ghost use Rattle.sysv_sem.specs.Trial.{answer_of, moved, tried_of, stopped_by, IsInside};
 
-use crate::semaphore::Semaphore;
-use crate::set::MAX_VALUE;
-use pico_base::{Errno, Pid, SemStep};
+use pico_base::{Errno, SemStep};
 
-/// The value that one operation makes of a value. EAGAIN: it would have to wait. ERANGE: the value would be above
-/// 32,767.
-fn value_after(add: i32, value: u32) -> Result<u32, Errno>
-    ensures { result ≡ answer_of (definition.move_by add value) }
+/// The greatest value of a semaphore (profile).
+pub(crate) const MAX_VALUE: u32 = 32767;
+
+/// How a trial ends: all operations can go on, the one at this place can't, or a value would be above 32,767.
+#[derive(Clone, Copy)]
+pub(crate) enum Trial {
+    Done,
+    StopsAt(usize),
+    OutOfRange,
+}
+
+/// The value after an operation. EAGAIN: it would have to wait. ERANGE: the value would be above 32,767.
+pub(crate) fn value_after(step: &SemStep, value: u32) -> Result<u32, Errno>
+    ensures { result ≡ answer_of (definition.move_by step.now.add value) }
 {
-    if add < 0 {
-        value.checked_sub(add.unsigned_abs()).ok_or(Errno::Eagain)
-    } else if add > 0 {
-        let sum = value.saturating_add(add.unsigned_abs());
-        if sum > MAX_VALUE {
-            return Err(Errno::Erange);
+    let add = step.add;
+    if add == 0 {
+        return if value == 0 {
+            Ok(0)
+        } else {
+            Err(Errno::Eagain)
+        };
+    }
+    let size = add.unsigned_abs();
+    if add > 0 {
+        if size <= MAX_VALUE && value <= MAX_VALUE - size {
+            Ok(value + size)
+        } else {
+            Err(Errno::Erange)
         }
-        Ok(sum)
-    } else if value == 0 {
-        Ok(0)
+    } else if size <= value {
+        Ok(value - size)
     } else {
         Err(Errno::Eagain)
     }
 }
 
-/// Carries out operations in order, or none, and makes the process the last one of each semaphore that they name.
-/// EAGAIN: the first that can't go on would have to wait. ERANGE: it would make a value above 32,767.
-pub(crate) fn carry_out(set: &mut [Semaphore], pid: Pid, steps: &[SemStep]) -> Result<(), Errno>
-    requires { All (λ step. step.num < length set.old) steps.now }
-    ensures done { OnOk result (carried pid set.old steps.now ≡ Ok set.new) }
-    ensures refused { IfErr result (λ e. carried pid set.old steps.now ≡ Err e) }
-    ensures err { OnErr result (set.new ≡ set.old) }
+/// One operation on the values. EAGAIN and ERANGE: it can't go on, and the values stay.
+fn move_one(values: &mut Vec<u32>, step: &SemStep) -> Result<(), Errno>
+    ensures as_many { vec_len values.new ≡ vec_len values.old }
+    ensures moved { MatchResult result (λ _. moved values.old.items step.now ≡ Ok values.new.items)
+        (λ e. (moved values.old.items step.now ≡ Err e) × (values.new.items ≡ values.old.items)) }
 {
-    let Some((step, rest)) = steps.split_first() else {
-        return Ok(());
-    };
-    let place = step.num as usize;
-    let before = set[place];
-    let value = value_after(step.add, before.value)?;
-    set[place] = Semaphore { value, last: pid };
-    if rest.is_empty() {
-        return Ok(());
+    let num = usize::from(step.num);
+    if num >= values.len() {
+        return Err(Errno::Eagain);
     }
-    let done = carry_out(set, pid, rest);
-    if done.is_err() {
-        set[place] = before;
+    match value_after(step, values[num]) {
+        Ok(value) => values[num] = value,
+        Err(errno) => return Err(errno),
     }
-    done
+    Ok(())
+}
+
+/// How a trial ends at an operation that can't go on.
+fn stopped(errno: Errno, place: usize) -> Trial
+    ensures { result ≡ stopped_by errno place }
+{
+    match errno {
+        Errno::Erange => Trial::OutOfRange,
+        _ => Trial::StopsAt(place),
+    }
+}
+
+/// The operations in order, on a copy of the values, up to the first that can't go on.
+pub(crate) fn try_in_order(values: &mut Vec<u32>, steps: &[SemStep]) -> Trial
+    ensures as_many { vec_len values.new ≡ vec_len values.old }
+    ensures tried { definition.try_ops values.old.items steps.now ≡ tried_of result values.new.items }
+    ensures inside { IsInside result steps.now }
+{
+    for place in 0..steps.len() {
+        match move_one(values, &steps[place]) {
+            Ok(()) => (),
+            Err(errno) => return stopped(errno, place),
+        }
+    }
+    Trial::Done
+}
+
+/// Whether an operation may have to wait: it isn't positive, and has no IPC_NOWAIT.
+pub(crate) fn may_wait(step: &SemStep) -> bool
+    ensures { result ≡ may_wait step.now }
+{
+    step.add <= 0 && !step.nowait
 }

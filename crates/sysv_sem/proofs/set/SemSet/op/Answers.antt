@@ -1,11 +1,11 @@
-use Rattle.std.proofs.Common.{length, ◌∙◌, sym, ap}
-use Rattle.sysv_sem.proofs.Within.{set_after_op}
+use Rattle.sysv_sem.specs.Waiters.{waiters_in}
+use Rattle.sysv_sem.proofs.Removed.{rests_alone}
+use Rattle.sysv_sem.proofs.Told.{limits_after_op}
 use Rattle.sysv_sem.proofs.set.SemSet.op.Goals as goal
 
 pub invariant_of-self : goal.invariant_of-self
 invariant_of-self c =
-    let row = c.self.inside.semaphores.items in
-    let row_is = c.deref_mut.ensures.value in
-    set_after_op c.operate.result row c.operate.new.set c.args.pid c.args.steps.now c.self.inside.semaphores.len
-    (rw row_is at c.operate.ensures.done) (rw row_is at c.operate.ensures.err)
-    (ap length (sym row_is) ∙ c.deref_mut.ensures.len) (c.operate.auto.set ∙ ap length row_is) c.self.invariant
+    rests_alone c.op.new.self (waiters_in c.self.inside.waiters.nodes)
+    (limits_after_op c.op.result c.self.inside.row c.op.new.self c.args.pid c.args.steps.now c.op.ensures
+    c.self.invariant.limits)
+    (rw (← c.self.view_is) at c.requires.nobody)

@@ -1,7 +1,0 @@
-pub mod Limits
-pub mod Linked
-pub mod Refusals
-pub mod Going
-pub mod Stored
-pub mod Body
-pub mod Reading

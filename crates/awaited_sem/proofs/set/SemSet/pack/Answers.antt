@@ -1,8 +1,0 @@
-use Rattle.awaited_sem.specs.Waiters.{waiters_in}
-use Rattle.awaited_sem.proofs.Calls.{are_asked}
-use Rattle.awaited_sem.proofs.set.SemSet.pack.Goals as goal
-
-pub push_waiters-requires : goal.push_waiters-requires
-push_waiters-requires c =
-    are_asked c.self.inside.row (waiters_in c.self.inside.waiters.nodes) c.self.invariant.waiters.each
-    c.self.invariant.settled

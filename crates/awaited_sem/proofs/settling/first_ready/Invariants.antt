@@ -1,8 +1,0 @@
-use Rattle.std.proofs.Common.{◌≡◌}
-use Rattle.awaited_sem.proofs.Rounds.{WaitSo}
-use Rattle.awaited_sem.proofs.Walk.{Reached}
-use Rattle.awaited_sem.proofs.settling.first_ready.Given as goal
-
-abbrev pub invariant-loop : goal.invariant-loop
-invariant-loop l =
-    record { same : l.row ≡ l.fn.row; reached : Reached l.waiters.nodes (WaitSo l.fn.row) l.at l.counter }

@@ -1,5 +1,0 @@
-use Rattle.std.proofs.Common.{length}
-use Rattle.awaited_sem.proofs.unpack.+have_own.Given as goal
-
-abbrev pub decreases-have_own : goal.decreases-have_own
-decreases-have_own l = length l.waiters.now

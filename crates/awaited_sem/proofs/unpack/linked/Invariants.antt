@@ -1,7 +1,0 @@
-use Rattle.std.proofs.Common.{◌≡◌, ◌++◌}
-use Rattle.awaited_sem.specs.Waiters.{waiters_in}
-use Rattle.awaited_sem.proofs.unpack.linked.Given as goal
-
--- those who are linked, and those who are left, are all
-abbrev pub invariant-loop-waiter : goal.invariant-loop-waiter
-invariant-loop-waiter l = waiters_in l.links.nodes ++ l.waiter-iterator.rest.items ≡ l.fn.waiters.items

@@ -1,9 +1,0 @@
-use Rattle.std.proofs.Common.{◌≡◌, ◌-◌}
-use Rattle.frame_bytes.specs.Readers.{many}
-use Rattle.frame_bytes.proofs.Loop.{with_front}
-use Rattle.awaited_sem.specs.Reading.{semaphore_at}
-use Rattle.awaited_sem.proofs.unpack.semaphores_of.Given as goal
-
-abbrev pub invariant-loop : goal.invariant-loop
-invariant-loop l =
-    with_front l.row.items (many semaphore_at (l.count - l.counter) l.rest) ≡ many semaphore_at l.count l.bytes

@@ -1,7 +1,0 @@
-use Rattle.std.proofs.Common.{◌≡◌, None, find}
-use Rattle.awaited_sem.specs.Waiters.{is_asked}
-use Rattle.awaited_sem.proofs.Walk.{Reached}
-use Rattle.awaited_sem.proofs.waiters.slot_of.Given as goal
-
-abbrev pub invariant-loop : goal.invariant-loop
-invariant-loop l = Reached l.waiters.nodes (λ ws. find (is_asked l.pid l.ticket) ws ≡ None) l.at l.counter

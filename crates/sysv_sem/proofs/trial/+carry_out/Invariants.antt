@@ -1,5 +1,0 @@
-use Rattle.std.proofs.Common.{length}
-use Rattle.sysv_sem.proofs.trial.+carry_out.Given as goal
-
-abbrev pub decreases-carry_out : goal.decreases-carry_out
-decreases-carry_out l = length l.steps.now
