@@ -1,6 +1,6 @@
--- What a call leaves of the body that it is carried out on, and its reply (POSIX.1-2017: kill, sigaction, sigprocmask,
--- sigpending, waitpid, msgsnd, msgrcv, msgctl, semop, semctl).
-use Rattle.std.specs.Prelude.{ℕ, Bool, true, false, not, ◌&&◌, ◌||◌, List, if◌then◌else◌, Option, Some, None, Result, Ok, Err}
+-- What a call leaves of the body that it is carried out on at once, and its reply, where nobody waits (POSIX.1-2017:
+-- kill, sigaction, sigprocmask, sigpending, waitpid, msgsnd, msgrcv, msgctl, semop, semctl).
+use Rattle.std.specs.Prelude.{ℕ, Bool, true, false, not, ◌&&◌, if◌then◌else◌, Result, Ok, Err}
 use Rattle.pico_base.specs.declared.call.Call.{Call}
 use Rattle.pico_base.specs.declared.call.Call.TheVariants as calls
 use Rattle.pico_base.specs.declared.call.Home.{Home}
@@ -20,7 +20,8 @@ use Rattle.kernel_model.specs.Row.{Row, Waited, Found, NotYet, NoChild, wait, wi
 use Rattle.kernel_model.specs.Queue.{Queue, Received, send, receive, set_qbytes, stat}
 use Rattle.kernel_model.specs.SemaphoreSet.{SemaphoreSet, op, value_at, last_at, waiting_at, set_value, set_all, values_of}
 use Rattle.kernel_model.specs.Waiting.{is_waiting}
-use Rattle.node_model.specs.Bodies.{Body, Living, Ended, Gone, AQueue, ASet, Removed}
+use Rattle.waiting_model.specs.Waiters.{unawaited}
+use Rattle.node_model.specs.Bodies.{Body, Living, Ended, AQueue, ASet, Removed}
 
 -- what is left, and the reply
 pub record Done (V : Type 0) : Type 0 where
@@ -121,10 +122,14 @@ on_body (Proc pid) (Ended ending) caller call =
     done (Ended ending) (if is_own caller call then replies.Fail Esrch else replies.Num 0)
 on_body (Proc pid) body caller call = done body (replies.Fail Esrch)
 on_body (Msg id) (AQueue queue) caller call =
-    if is_removal call then done Removed (replies.Num 0) else in_body AQueue (on_queue queue caller call)
+    if is_removal call
+    then done Removed (replies.Num 0)
+    else in_body (λ q. AQueue (unawaited q)) (on_queue queue.state caller call)
 on_body (Msg id) body caller call = done body (replies.Fail Einval)
 on_body (Sem id) (ASet set) caller call =
-    if is_removal call then done Removed (replies.Num 0) else in_body ASet (on_set set caller call)
+    if is_removal call
+    then done Removed (replies.Num 0)
+    else in_body (λ s. ASet (unawaited s)) (on_set set.state caller call)
 on_body (Sem id) body caller call = done body (replies.Fail Einval)
 
 -- ---- the calls that are served

@@ -1,18 +1,23 @@
 -- Worked examples, computed by the checker.
-use Rattle.std.specs.Prelude.{◌≡◌, ℕ, pos, true, false, [], ◌∷◌, Option, Some, None, refl, codes}
-use Rattle.std.specs.Option.{option_map}
+use Rattle.std.specs.Prelude.{◌≡◌, ℕ, pos, true, false, List, [], ◌∷◌, Option, Some, None, refl, codes}
+use Rattle.std.specs.Option.{option_and_then}
 use Rattle.pico_base.specs.declared.call.Call.TheVariants as calls
 use Rattle.pico_base.specs.declared.numbers.Kind.TheVariants as kinds
+use Rattle.pico_base.specs.declared.numbers.Name.{Name}
 use Rattle.pico_base.specs.declared.numbers.Name.TheVariants.{Proc, Msg, Sem}
 use Rattle.pico_base.specs.declared.reply.Ending.TheVariants.{Exited, Killed}
 use Rattle.pico_base.specs.declared.reply.Reply.{Reply}
-use Rattle.pico_base.specs.declared.reply.Reply.TheVariants.{Child, Message}
+use Rattle.pico_base.specs.declared.reply.Reply.TheVariants.{Child, Message, Fail}
+use Rattle.pico_base.specs.declared.reply.Errno.TheVariants.{Eidrm}
 use Rattle.pico_base.specs.declared.signal.Sig.TheVariants.{Term, Usr1}
 use Rattle.pico_base.specs.declared.signal.SigArg.TheVariants.{Is}
 use Rattle.rpc_frame.specs.declared.deed.Parcel.{Parcel}
 use Rattle.kernel_model.specs.Queue.{empty_queue}
 use Rattle.kernel_model.specs.Signals.{raise}
 use Rattle.kernel_model.specs.Row.{Row, new_row, ended_child}
+use Rattle.waiting_model.specs.declared.callers.Waiting.{Waiting}
+use Rattle.waiting_model.specs.declared.callers.Wake.{Wake}
+use Rattle.waiting_model.specs.Waiters.{awaited, unawaited, waiter}
 use Rattle.node_model.specs.declared.held.Held.{Held}
 use Rattle.node_model.specs.declared.held.Held.TheVariants.{Request}
 use Rattle.node_model.specs.declared.route.Route.TheVariants as routes
@@ -20,10 +25,10 @@ use Rattle.node_model.specs.Kinds.{none_named, put_named, put_all, get_named}
 use Rattle.node_model.specs.Directory.{Directory, At, opening_directory, upcoming, with_range, route, place_name, recall, hold, held_for, bound_for, arrive, with_leaving, with_left, stays, place_of}
 use Rattle.node_model.specs.Cache.{Cache, owner_in, learn, look, forget}
 use Rattle.node_model.specs.Leases.{leader_leases, leases_hold}
-use Rattle.node_model.specs.Bodies.{Living, Ended, Gone, AQueue, Removed, Deeds}
+use Rattle.node_model.specs.Bodies.{Body, Living, Ended, Gone, AQueue, Removed, Deeds}
 use Rattle.node_model.specs.Spelling.{pack, body_bytes, read_body, read_deed}
-use Rattle.node_model.specs.Serving.{Served, serve}
-use Rattle.node_model.specs.Parcels.{commit_exit}
+use Rattle.node_model.specs.Serving.{Served, serve, Leaves, NotThere, NotHeld, withdraw}
+use Rattle.node_model.specs.Parcels.{Committed, commit_exit}
 
 -- ---- the directory
 
@@ -142,7 +147,7 @@ new_process_body = refl
 -- ---- serving
 
 abbrev pub holding_queue : Deeds
-holding_queue = put_named none_named (Msg 1) (AQueue empty_queue)
+holding_queue = put_named none_named (Msg 1) (AQueue (unawaited empty_queue))
 
 -- what is held afterwards, and the reply
 abbrev pub deeds_after : Deeds → Option Served → Deeds
@@ -150,21 +155,23 @@ deeds_after deeds None = deeds
 deeds_after deeds (Some s) = put_all deeds s.changes
 
 abbrev pub reply_of : Option Served → Option Reply
-reply_of s = option_map (λ (done : Served). done.reply) s
+reply_of s = option_and_then (λ (done : Served). done.own) s
 
 -- a send and then a receive
 abbrev pub holding_a_message : Deeds
-holding_a_message = deeds_after holding_queue (serve holding_queue 2 (calls.MsgSnd 1 (pos 1) (codes "hi") true))
+holding_a_message =
+    deeds_after holding_queue (serve holding_queue (waiter 2 (calls.MsgSnd 1 (pos 1) (codes "hi") true)))
 
-received : reply_of (serve holding_a_message 3 (calls.MsgRcv 1 (pos 0) 8 false true))
+received : reply_of (serve holding_a_message (waiter 3 (calls.MsgRcv 1 (pos 0) 8 false true)))
     ≡ Some (Message (pos 1) (codes "hi"))
 received = refl
 
 -- a removal leaves the deed, which answers for the name from now on
-removed_queue : get_named (deeds_after holding_queue (serve holding_queue 2 (calls.MsgRmid 1))) (Msg 1) ≡ Some Removed
+removed_queue : get_named (deeds_after holding_queue (serve holding_queue (waiter 2 (calls.MsgRmid 1)))) (Msg 1)
+    ≡ Some Removed
 removed_queue = refl
 
-not_held : serve holding_queue 2 (calls.MsgStat 2) ≡ None
+not_held : serve holding_queue (waiter 2 (calls.MsgStat 2)) ≡ None
 not_held = refl
 
 abbrev pub parent_row : Row
@@ -178,16 +185,73 @@ abbrev pub with_family : Deeds
 with_family = put_named (put_named none_named (Proc 2) (Living parent_row)) (Proc 3) (Ended (Exited 7))
 
 -- the ended child is found, and is gone
-waited : reply_of (serve with_family 2 (calls.WaitPid None true)) ≡ Some (Child 3 (Exited 7))
+waited : reply_of (serve with_family (waiter 2 (calls.WaitPid None true))) ≡ Some (Child 3 (Exited 7))
 waited = refl
 
-waited_child : get_named (deeds_after with_family (serve with_family 2 (calls.WaitPid None true))) (Proc 3) ≡ Some Gone
+waited_child : get_named (deeds_after with_family (serve with_family (waiter 2 (calls.WaitPid None true)))) (Proc 3)
+    ≡ Some Gone
 waited_child = refl
 
 -- a signal to another process that is held here
-killed : get_named (deeds_after with_family (serve with_family 9 (calls.Kill 2 (Is Usr1)))) (Proc 2)
+killed : get_named (deeds_after with_family (serve with_family (waiter 9 (calls.Kill 2 (Is Usr1))))) (Proc 2)
     ≡ Some (Living (record { signals = raise parent_row.signals Usr1; family = parent_row.family }))
 killed = refl
+
+-- ---- callers that wait
+
+-- the process of node 3 waits for a message, and that of node 4 for a message of type 2
+abbrev pub receives : ℕ → ℕ → ℕ → Waiting
+receives node ticket class =
+    record { caller = node; ticket = ticket; pid = node; call = calls.MsgRcv 1 (pos class) 8 false false }
+
+abbrev pub awaited_queue : Deeds
+awaited_queue =
+    put_named none_named (Msg 1) (AQueue (awaited empty_queue (receives 3 5 0 ∷ receives 4 7 2 ∷ [])))
+
+abbrev pub wakes_in : Option Served → List Wake
+wakes_in None = []
+wakes_in (Some s) = s.wakes
+
+abbrev pub readers_in : Option Served → List ℕ
+readers_in None = []
+readers_in (Some s) = s.readers
+
+-- a call that has to wait goes last among those who wait
+parked_last : deeds_after awaited_queue (serve awaited_queue (receives 2 1 0))
+    ≡ put_named none_named (Msg 1) (AQueue (awaited empty_queue (receives 3 5 0 ∷ receives 4 7 2 ∷ receives 2 1 0
+    ∷ [])))
+parked_last = refl
+
+-- a send wakes the first whose call it lets go on, at that one's node and under its ticket; the woken node reads
+abbrev pub sends_to_them : Option Served
+sends_to_them = serve awaited_queue (waiter 2 (calls.MsgSnd 1 (pos 1) (codes "hi") false))
+
+woken_first : wakes_in sends_to_them
+    ≡ record { caller = 3; ticket = 5; pid = 3; reply = Message (pos 1) (codes "hi") } ∷ []
+woken_first = refl
+
+woken_reads : readers_in sends_to_them ≡ 3 ∷ []
+woken_reads = refl
+
+-- a removal wakes all, in order, and nobody has read
+removal_wakes_all : wakes_in (serve awaited_queue (waiter 2 (calls.MsgRmid 1)))
+    ≡ record { caller = 3; ticket = 5; pid = 3; reply = Fail Eidrm }
+    ∷ record { caller = 4; ticket = 7; pid = 4; reply = Fail Eidrm }
+    ∷ []
+removal_wakes_all = refl
+
+removal_reads_nothing : readers_in (serve awaited_queue (waiter 2 (calls.MsgRmid 1))) ≡ []
+removal_reads_nothing = refl
+
+-- a withdrawal takes out whom it names, by process and ticket
+withdrawn : withdraw awaited_queue (Msg 1) 3 5 ≡ Leaves (AQueue (awaited empty_queue (receives 4 7 2 ∷ [])))
+withdrawn = refl
+
+of_an_earlier_call : withdraw awaited_queue (Msg 1) 3 4 ≡ NotThere
+of_an_earlier_call = refl
+
+at_another_node : withdraw awaited_queue (Msg 2) 3 5 ≡ NotHeld
+at_another_node = refl
 
 -- ---- an end
 
@@ -195,8 +259,16 @@ killed = refl
 abbrev pub parcel_of_9 : Parcel
 parcel_of_9 = record { pid = 9; parent = 2; call = calls.Exit 300; deeds = pack (Proc 9) (Living new_row) ∷ [] }
 
-ends_there : commit_exit parcel_of_9 ((9, Living new_row) ∷ []) (Living parent_row)
-    ≡ Some (
+abbrev pub changes_of : Option Committed → List (Name × Body)
+changes_of None = []
+changes_of (Some c) = c.changes
+
+abbrev pub wakes_of : Option Committed → List Wake
+wakes_of None = []
+wakes_of (Some c) = c.wakes
+
+ends_there : changes_of (commit_exit parcel_of_9 ((9, Living new_row) ∷ []) None (Living parent_row))
+    ≡ (
     (Proc 9, Gone)
     ∷ (Proc 9, Ended (Exited 44))
     ∷ (
@@ -209,3 +281,22 @@ ends_there : commit_exit parcel_of_9 ((9, Living new_row) ∷ []) (Living parent
     )
     ∷ [])
 ends_there = refl
+
+-- a parent that waits for this child gets it, which is gone then
+wakes_the_parent : wakes_of (commit_exit parcel_of_9 ((9, Living new_row)
+    ∷ []) (Some (calls.WaitPid (Some 9) false)) (Living parent_row))
+    ≡ record { caller = 0; ticket = 0; pid = 2; reply = Child 9 (Exited 44) } ∷ []
+wakes_the_parent = refl
+
+found_child_is_gone : put_all with_family (changes_of (commit_exit parcel_of_9 ((9, Living new_row)
+    ∷ []) (Some (calls.WaitPid (Some 9) false)) (Living parent_row)))
+    ≡ put_named (put_named with_family (Proc 9) Gone) (Proc 2)
+    (Living (record {
+      signals = parent_row.signals;
+      family = record {
+        living = [];
+        ended = ended_child 3 (Exited 7)
+            ∷ [];
+      };
+    }))
+found_child_is_gone = refl

@@ -2,6 +2,7 @@ pub mod Bodies
 pub mod Cache
 pub mod Caller
 pub mod Carrying
+pub mod Awaiting
 pub mod Directory
 pub mod Entries
 pub mod Examples

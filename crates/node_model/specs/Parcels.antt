@@ -8,16 +8,20 @@ use Rattle.pico_base.specs.declared.numbers.Name.{Name}
 use Rattle.pico_base.specs.declared.numbers.Name.TheVariants.{Proc, Msg, Sem}
 use Rattle.pico_base.specs.declared.reply.Ending.{Ending}
 use Rattle.pico_base.specs.declared.reply.Ending.TheVariants as endings
+use Rattle.pico_base.specs.declared.reply.Reply.{Reply}
+use Rattle.pico_base.specs.declared.reply.Reply.TheVariants as replies
 use Rattle.rpc_frame.specs.declared.deed.PackedDeed.{PackedDeed}
 use Rattle.rpc_frame.specs.declared.deed.Parcel.{Parcel}
 use Rattle.rpc_frame.specs.declared.frame.Frame.{Frame}
 use Rattle.rpc_frame.specs.declared.frame.Frame.TheVariants as frames
 use Rattle.number_maps.specs.Maps.{Numbered, get}
 use Rattle.kernel_model.specs.Row.{Row, lists}
-use Rattle.kernel_model.specs.Kernel.{Kernel, Parent}
-use Rattle.kernel_model.specs.ProcessCalls.{end_under}
 use Rattle.kernel_model.specs.Transition.{is_doomed_by}
-use Rattle.node_model.specs.Bodies.{Body, Living, Gone, Deeds, empty_kernel, free_to_act, is_over_body}
+use Rattle.waiting_model.specs.declared.callers.Wake.{Wake}
+use Rattle.waiting_model.specs.Marks.{Alive, new_marks}
+use Rattle.waiting_model.specs.Kernel.{Kernel, Parent}
+use Rattle.waiting_model.specs.ProcessCalls.{end_under, wakes_under}
+use Rattle.node_model.specs.Bodies.{Body, Living, Gone, Deeds, empty_kernel, is_over_body}
 use Rattle.node_model.specs.Spelling.{pack, read_deed}
 use Rattle.node_model.specs.Serving.{parts_in}
 
@@ -98,36 +102,64 @@ ending_of (calls.Killed sig) = endings.Killed sig
 ending_of (calls.Exit status) = endings.Exited (status % 256)
 ending_of call = endings.Exited 0
 
--- A parent that lives keeps the ending or forgets it; one that has ended knows nothing of it.
-abbrev pub parent_with : ℕ → Body → Option Parent
-parent_with parent (Living row) = Some (record { pid = parent; alive = free_to_act row })
-parent_with parent _ = None
+-- A parent that lives keeps the ending or forgets it; one that has ended knows nothing of it. It may be parked in a
+-- `waitpid`, which its row doesn't tell.
+abbrev pub parked_in : Option Call → Row → Alive
+parked_in waits row = record { row = row; marks = record new_marks { parked = waits } }
+
+abbrev pub parent_with : ℕ → Option Call → Body → Option Parent
+parent_with parent waits (Living row) = Some (record { pid = parent; alive = parked_in waits row })
+parent_with parent waits _ = None
 
 -- a living parent has to list the child
 abbrev pub lets_end : ℕ → Body → Bool
 lets_end child (Living row) = lists row.family child
 lets_end child _ = true
 
-abbrev pub kernel_after_end : ℕ → ℕ → Body → Ending → Kernel
-kernel_after_end pid parent body ending =
-    record empty_kernel { processes = end_under [] pid ending (parent_with parent body) }
+abbrev pub kernel_after_end : ℕ → ℕ → Option Call → Body → Ending → Kernel
+kernel_after_end pid parent waits body ending =
+    record empty_kernel { processes = end_under [] pid ending (parent_with parent waits body) }
 
-abbrev pub names_after_end : ℕ → ℕ → Body → List Name
-names_after_end pid parent (Living row) = Proc pid ∷ Proc parent ∷ []
-names_after_end pid parent body = Proc pid ∷ []
+-- the child with which a parent is woken is gone
+abbrev pub found_in : Reply → List Name
+found_in (replies.Child child ending) = Proc child ∷ []
+found_in reply = []
+
+abbrev pub found_names : List Wake → List Name
+found_names [] = []
+found_names (w ∷ wakes) = found_in w.reply ++ found_names wakes
+
+abbrev pub names_after_end : ℕ → ℕ → List Wake → Body → List Name
+names_after_end pid parent wakes (Living row) = Proc pid ∷ Proc parent ∷ found_names wakes
+names_after_end pid parent wakes body = Proc pid ∷ []
 
 -- processes of these numbers are gone
 abbrev pub all_gone : List ℕ → List (Name × Body)
 all_gone pids = map (λ pid. (Proc pid, Gone)) pids
 
+-- what an end comes to: the bodies that are other ones, and the parent's reply where its `waitpid` has one now
+pub record Committed : Type 0 where
+  pub changes : List (Name × Body)
+  pub wakes : List Wake
+
+abbrev pub committed : Parcel → Numbered Body → Option Call → Body → List Wake → Committed
+committed parcel bodies waits parent wakes =
+    record {
+      changes =
+          all_gone (map (λ e. e.0) bodies)
+          ++ parts_in (kernel_after_end parcel.pid parcel.parent waits parent (ending_of parcel.call))
+          (names_after_end parcel.pid parcel.parent wakes parent);
+      wakes = wakes;
+    }
+
 -- An end is carried out where the parent's deed is, which has this body: all ended processes of the parcel are gone,
--- and the process and its parent are as after an end in the kernel. None where a living parent doesn't list the child.
-abbrev pub commit_exit : Parcel → Numbered Body → Body → Option (List (Name × Body))
-commit_exit parcel bodies parent =
+-- and the process and its parent are as after an end in the kernel, where the parent may be parked in `waitpid`. None
+-- where a living parent doesn't list the child.
+abbrev pub commit_exit : Parcel → Numbered Body → Option Call → Body → Option Committed
+commit_exit parcel bodies waits parent =
     if lets_end parcel.pid parent
-    then Some (all_gone (map (λ e. e.0) bodies)
-    ++ parts_in (kernel_after_end parcel.pid parcel.parent parent (ending_of parcel.call))
-    (names_after_end parcel.pid parcel.parent parent))
+    then Some (committed parcel bodies waits parent
+    (wakes_under parcel.pid (ending_of parcel.call) (parent_with parcel.parent waits parent)))
     else None
 
 -- process 1 ends, which no process is the parent of, and with it what it keeps of its children

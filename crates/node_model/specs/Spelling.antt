@@ -1,4 +1,5 @@
--- A deed's body as bytes, and back (profile): a code for its kind, and its fields.
+-- A deed's body as bytes, and back (profile): a code for its kind, and its fields. Those who wait travel with their
+-- queue or set, as its last field.
 use Rattle.std.specs.Prelude.{ℕ, Bool, true, false, not, ◌&&◌, ◌==◌, List, [], ◌∷◌, ◌++◌, length, take, drop, slice_index, nat_le, nat_eq, if◌then◌else◌, Option, Some, None, bytes_eq}
 use Rattle.std.specs.List.{list_all, list_any}
 use Rattle.std.specs.Option.{option_map, option_and_then}

@@ -10,7 +10,7 @@ use Rattle.pico_base.specs.declared.script.Script.{Script}
 use Rattle.pico_base.specs.Home.{home_of}
 use Rattle.rpc_frame.specs.declared.asked.Asked.{Asked}
 use Rattle.rpc_frame.specs.declared.frame.Frame.TheVariants as frames
-use Rattle.kernel_model.specs.Waiting.{is_waiting}
+use Rattle.waiting_model.specs.Calls.{is_withdrawal}
 use Rattle.node_model.specs.Cache.{learn, forget}
 use Rattle.node_model.specs.Leases.{leases_hold}
 use Rattle.node_model.specs.Caller.{answer_call}
@@ -43,9 +43,9 @@ is_for_others (homes.Removal name) = true
 is_for_others homes.Keys = true
 is_for_others home = false
 
--- a call that asks for something without waiting for it
+-- a call of a script that is for others; a withdrawal goes by a frame of its own
 abbrev pub asks_as : (Home → Bool) → ℕ → Call → Bool
-asks_as is_home pid call = is_home (home_of pid call) && not (is_waiting call)
+asks_as is_home pid call = is_home (home_of pid call) && not (is_withdrawal call)
 
 -- the Ask rule
 abbrev pub take_ask : Script → Node → ℕ → ℕ → ℕ → Call → Option Step
@@ -78,7 +78,7 @@ forwarded_by script n asked home = None
 
 abbrev pub take_forward : Script → Node → ℕ → Asked → Option Step
 take_forward script n from asked =
-    if is_from_leader n from && (is_node script asked.caller && not (is_waiting asked.call))
+    if is_from_leader n from && (is_node script asked.caller && not (is_withdrawal asked.call))
     then forwarded_by script n asked (home_of asked.pid asked.call)
     else None
 
@@ -92,7 +92,7 @@ requested_by script n asked home = None
 
 abbrev pub take_request : Script → Node → ℕ → ℕ → ℕ → Call → Option Step
 take_request script n from ticket pid call =
-    if (is_born n && not (nat_eq from n.number)) && not (is_waiting call)
+    if (is_born n && not (nat_eq from n.number)) && not (is_withdrawal call)
     then requested_by script n (record { caller = from; ticket = ticket; pid = pid; call = call }) (home_of pid call)
     else None
 

@@ -12,6 +12,7 @@ use Rattle.pico_base.specs.declared.numbers.Name.TheVariants.{Msg}
 use Rattle.rpc_frame.specs.declared.frame.Frame.{Frame}
 use Rattle.rpc_frame.specs.declared.frame.Frame.TheVariants as frames
 use Rattle.kernel_model.specs.Queue.{empty_queue}
+use Rattle.waiting_model.specs.Waiters.{unawaited}
 use Rattle.node_model.specs.Bodies.{Body, AQueue, Removed}
 use Rattle.node_model.specs.Directory.{place_name}
 use Rattle.world_model.specs.Node.{Leader, Node, first_node, opening_leader}
@@ -26,8 +27,13 @@ use Rattle.signal_state.specs.Spelling.{signal_bytes}
 use Rattle.fork_wait.specs.Spelling.{family_bytes}
 use Rattle.fork_wait.specs.Reading.{family_at, numbers_at, all_ended_at, ended_at}
 use Rattle.body_fields.specs.Fields.{byte_upto, number_upto}
-use Rattle.sysv_msg.specs.Reading.{text_at, class_at, message_at, messages_at, all_messages_at, fields_at as queue_fields_at, queue_at}
-use Rattle.sysv_sem.specs.Reading.{semaphore_at, semaphores_at, fields_at as set_fields_at, counted_at, set_at}
+use Rattle.frame_bytes.specs.Readers.{many}
+use Rattle.frame_bytes.specs.Fields.{positive_at, count_at, signed_at, node_at, flag_at, text_at}
+use Rattle.frame_bytes.specs.Calls.{asked_call_at, step_at, steps_at}
+use Rattle.frame_bytes.specs.Frames.{asked_at}
+use Rattle.waiter_fields.specs.Waiters.{head_at, waiter_at, waiters_at}
+use Rattle.sysv_msg.specs.Reading.{class_at, short_at, message_at, messages_at, call_at as queue_call_at, state_at as queue_state_at, settled_at, fields_at as queue_fields_at, queue_at}
+use Rattle.sysv_sem.specs.Reading.{semaphore_at, row_at, waiter_at as set_waiter_at, waiters_at as set_waiters_at, fields_at as set_fields_at, set_at}
 
 -- a queue at node 1, and a child that asks for it there
 abbrev pub both_find_nothing : Script
@@ -57,8 +63,9 @@ pub both_find_nothing_journal : at_rest_journal (opening_world both_find_nothing
     ∷ [])
 unfolding may_come read_deed read_body body_bytes row_bytes read_process read_row read_signals
     read_family read_queue read_set signal_bytes family_bytes family_at numbers_at all_ended_at ended_at
-    byte_upto number_upto text_at class_at message_at messages_at all_messages_at queue_fields_at queue_at semaphore_at
-    semaphores_at set_fields_at counted_at set_at
+    byte_upto number_upto many positive_at count_at signed_at node_at flag_at text_at step_at steps_at asked_call_at
+    asked_at head_at waiter_at waiters_at class_at short_at message_at messages_at queue_call_at queue_state_at
+    settled_at queue_fields_at queue_at semaphore_at row_at set_waiter_at set_waiters_at set_fields_at set_at
 both_find_nothing_journal = refl
 
 -- the fourth receive in a row by one node moves the queue there
@@ -106,8 +113,9 @@ pub queue_moves_journal : at_rest_journal (opening_world queue_moves) queue_move
     ∷ [])
 unfolding may_come read_deed read_body body_bytes row_bytes read_process read_row read_signals
     read_family read_queue read_set signal_bytes family_bytes family_at numbers_at all_ended_at ended_at
-    byte_upto number_upto text_at class_at message_at messages_at all_messages_at queue_fields_at queue_at semaphore_at
-    semaphores_at set_fields_at counted_at set_at
+    byte_upto number_upto many positive_at count_at signed_at node_at flag_at text_at step_at steps_at asked_call_at
+    asked_at head_at waiter_at waiters_at class_at short_at message_at messages_at queue_call_at queue_state_at
+    settled_at queue_fields_at queue_at semaphore_at row_at set_waiter_at set_waiters_at set_fields_at set_at
 queue_moves_journal = refl
 
 -- the owner of a queue leaves while a send to it is held
@@ -142,8 +150,9 @@ pub owner_exits_journal : at_rest_journal (opening_world owner_exits) owner_exit
     ∷ [])
 unfolding may_come read_deed read_body body_bytes row_bytes read_process read_row read_signals
     read_family read_queue read_set signal_bytes family_bytes family_at numbers_at all_ended_at ended_at
-    byte_upto number_upto text_at class_at message_at messages_at all_messages_at queue_fields_at queue_at semaphore_at
-    semaphores_at set_fields_at counted_at set_at
+    byte_upto number_upto many positive_at count_at signed_at node_at flag_at text_at step_at steps_at asked_call_at
+    asked_at head_at waiter_at waiters_at class_at short_at message_at messages_at queue_call_at queue_state_at
+    settled_at queue_fields_at queue_at semaphore_at row_at set_waiter_at set_waiters_at set_fields_at set_at
 owner_exits_journal = refl
 
 -- a queue is removed while it moves, and its key is bound anew
@@ -194,8 +203,9 @@ pub removal_during_a_move_journal : journal_of (opening_world removal_during_a_m
     ∷ [])
 unfolding may_come read_deed read_body body_bytes row_bytes read_process read_row read_signals
     read_family read_queue read_set signal_bytes family_bytes family_at numbers_at all_ended_at ended_at
-    byte_upto number_upto text_at class_at message_at messages_at all_messages_at queue_fields_at queue_at semaphore_at
-    semaphores_at set_fields_at counted_at set_at
+    byte_upto number_upto many positive_at count_at signed_at node_at flag_at text_at step_at steps_at asked_call_at
+    asked_at head_at waiter_at waiters_at class_at short_at message_at messages_at queue_call_at queue_state_at
+    settled_at queue_fields_at queue_at semaphore_at row_at set_waiter_at set_waiters_at set_fields_at set_at
 removal_during_a_move_journal = refl
 
 -- the owner that a cache names has given the queue away
@@ -245,8 +255,9 @@ pub cache_is_stale_journal : journal_of (opening_world cache_is_stale) cache_is_
     ∷ [])
 unfolding may_come read_deed read_body body_bytes row_bytes read_process read_row read_signals
     read_family read_queue read_set signal_bytes family_bytes family_at numbers_at all_ended_at ended_at
-    byte_upto number_upto text_at class_at message_at messages_at all_messages_at queue_fields_at queue_at semaphore_at
-    semaphores_at set_fields_at counted_at set_at
+    byte_upto number_upto many positive_at count_at signed_at node_at flag_at text_at step_at steps_at asked_call_at
+    asked_at head_at waiter_at waiters_at class_at short_at message_at messages_at queue_call_at queue_state_at
+    settled_at queue_fields_at queue_at semaphore_at row_at set_waiter_at set_waiters_at set_fields_at set_at
 cache_is_stale_journal = refl
 
 -- a signal to a child whose place the leader does not know yet, and one to a number that is nobody's
@@ -277,8 +288,9 @@ pub new_numbers_journal : journal_of (opening_world new_numbers) new_numbers_eve
     ∷ [])
 unfolding may_come read_deed read_body body_bytes row_bytes read_process read_row read_signals
     read_family read_queue read_set signal_bytes family_bytes family_at numbers_at all_ended_at ended_at
-    byte_upto number_upto text_at class_at message_at messages_at all_messages_at queue_fields_at queue_at semaphore_at
-    semaphores_at set_fields_at counted_at set_at
+    byte_upto number_upto many positive_at count_at signed_at node_at flag_at text_at step_at steps_at asked_call_at
+    asked_at head_at waiter_at waiters_at class_at short_at message_at messages_at queue_call_at queue_state_at
+    settled_at queue_fields_at queue_at semaphore_at row_at set_waiter_at set_waiters_at set_fields_at set_at
 new_numbers_journal = refl
 
 -- ends of grandchildren, before and after that of their parent
@@ -319,8 +331,9 @@ pub grandchildren_journal : journal_of (opening_world grandchildren) grandchildr
     ∷ [])
 unfolding may_come read_deed read_body body_bytes row_bytes read_process read_row read_signals
     read_family read_queue read_set signal_bytes family_bytes family_at numbers_at all_ended_at ended_at
-    byte_upto number_upto text_at class_at message_at messages_at all_messages_at queue_fields_at queue_at semaphore_at
-    semaphores_at set_fields_at counted_at set_at
+    byte_upto number_upto many positive_at count_at signed_at node_at flag_at text_at step_at steps_at asked_call_at
+    asked_at head_at waiter_at waiters_at class_at short_at message_at messages_at queue_call_at queue_state_at
+    settled_at queue_fields_at queue_at semaphore_at row_at set_waiter_at set_waiters_at set_fields_at set_at
 grandchildren_journal = refl
 
 -- a node uses its lease up and gets the next one
@@ -396,8 +409,9 @@ pub nine_forks_journal : at_rest_journal (opening_world nine_forks) nine_forks_e
     ∷ [])
 unfolding may_come read_deed read_body body_bytes row_bytes read_process read_row read_signals
     read_family read_queue read_set signal_bytes family_bytes family_at numbers_at all_ended_at ended_at
-    byte_upto number_upto text_at class_at message_at messages_at all_messages_at queue_fields_at queue_at semaphore_at
-    semaphores_at set_fields_at counted_at set_at
+    byte_upto number_upto many positive_at count_at signed_at node_at flag_at text_at step_at steps_at asked_call_at
+    asked_at head_at waiter_at waiters_at class_at short_at message_at messages_at queue_call_at queue_state_at
+    settled_at queue_fields_at queue_at semaphore_at row_at set_waiter_at set_waiters_at set_fields_at set_at
 nine_forks_journal = refl
 
 -- a child that asks for its number
@@ -423,8 +437,9 @@ pub asks_its_number_journal : at_rest_journal (opening_world asks_its_number) as
     ∷ [])
 unfolding may_come read_deed read_body body_bytes row_bytes read_process read_row read_signals
     read_family read_queue read_set signal_bytes family_bytes family_at numbers_at all_ended_at ended_at
-    byte_upto number_upto text_at class_at message_at messages_at all_messages_at queue_fields_at queue_at semaphore_at
-    semaphores_at set_fields_at counted_at set_at
+    byte_upto number_upto many positive_at count_at signed_at node_at flag_at text_at step_at steps_at asked_call_at
+    asked_at head_at waiter_at waiters_at class_at short_at message_at messages_at queue_call_at queue_state_at
+    settled_at queue_fields_at queue_at semaphore_at row_at set_waiter_at set_waiters_at set_fields_at set_at
 asks_its_number_journal = refl
 
 -- the owner of a set exits, and node 1 has the set
@@ -454,8 +469,9 @@ pub set_goes_home_journal : journal_of (opening_world set_goes_home) set_goes_ho
     ∷ [])
 unfolding may_come read_deed read_body body_bytes row_bytes read_process read_row read_signals
     read_family read_queue read_set signal_bytes family_bytes family_at numbers_at all_ended_at ended_at
-    byte_upto number_upto text_at class_at message_at messages_at all_messages_at queue_fields_at queue_at semaphore_at
-    semaphores_at set_fields_at counted_at set_at
+    byte_upto number_upto many positive_at count_at signed_at node_at flag_at text_at step_at steps_at asked_call_at
+    asked_at head_at waiter_at waiters_at class_at short_at message_at messages_at queue_call_at queue_state_at
+    settled_at queue_fields_at queue_at semaphore_at row_at set_waiter_at set_waiters_at set_fields_at set_at
 set_goes_home_journal = refl
 
 -- Key 7 leads to queue 1, which node 2 owns by now. Node 3 removes it, and the deed comes back with this body.
@@ -471,14 +487,15 @@ removes_and_gets body =
 
 -- no key leads to what is removed
 pub removed_queue_entries :
-    entries_after both_find_nothing (step_to moved_queue) (removes_and_gets (AQueue empty_queue)) ≡ Some (
+    entries_after both_find_nothing (step_to moved_queue) (removes_and_gets (AQueue (unawaited empty_queue))) ≡ Some (
     entry_by 1 3 (calls.MsgRmid 1) (Num 0)
     ∷ entry_by 1 3 (calls.MsgGet (Some 7) false false) (Fail Enoent)
     ∷ [])
 unfolding may_come read_deed read_body body_bytes row_bytes read_process read_row read_signals
     read_family read_queue read_set signal_bytes family_bytes family_at numbers_at all_ended_at ended_at
-    byte_upto number_upto text_at class_at message_at messages_at all_messages_at queue_fields_at queue_at semaphore_at
-    semaphores_at set_fields_at counted_at set_at
+    byte_upto number_upto many positive_at count_at signed_at node_at flag_at text_at step_at steps_at asked_call_at
+    asked_at head_at waiter_at waiters_at class_at short_at message_at messages_at queue_call_at queue_state_at
+    settled_at queue_fields_at queue_at semaphore_at row_at set_waiter_at set_waiters_at set_fields_at set_at
 removed_queue_entries = refl
 
 -- and a removal that is refused, which no run has, leaves the key
@@ -489,6 +506,7 @@ pub refused_removal_entries : entries_after both_find_nothing (step_to moved_que
     ∷ [])
 unfolding may_come read_deed read_body body_bytes row_bytes read_process read_row read_signals
     read_family read_queue read_set signal_bytes family_bytes family_at numbers_at all_ended_at ended_at
-    byte_upto number_upto text_at class_at message_at messages_at all_messages_at queue_fields_at queue_at semaphore_at
-    semaphores_at set_fields_at counted_at set_at
+    byte_upto number_upto many positive_at count_at signed_at node_at flag_at text_at step_at steps_at asked_call_at
+    asked_at head_at waiter_at waiters_at class_at short_at message_at messages_at queue_call_at queue_state_at
+    settled_at queue_fields_at queue_at semaphore_at row_at set_waiter_at set_waiters_at set_fields_at set_at
 refused_removal_entries = refl

@@ -19,6 +19,7 @@ use Rattle.rpc_frame.specs.declared.asked.Asked.{Asked}
 use Rattle.number_maps.specs.Maps.{Numbered, get, put, without_value}
 use Rattle.kernel_model.specs.Queue.{empty_queue}
 use Rattle.kernel_model.specs.SemaphoreSet.{SemaphoreSet, new_set}
+use Rattle.waiting_model.specs.Waiters.{unawaited}
 use Rattle.node_model.specs.Kinds.{put_named}
 use Rattle.node_model.specs.Directory.{place_name}
 use Rattle.node_model.specs.Bodies.{Body, AQueue, ASet}
@@ -49,13 +50,13 @@ make_bound script step asked name body id leader =
 abbrev pub make_queue : Script → Step → Asked → ℕ → Taken → Step
 make_queue script step asked key t =
     let l : Leader = t.node.leader
-    in make_bound script (with_node step t.node) asked (Msg t.number) (AQueue empty_queue) t.number
+    in make_bound script (with_node step t.node) asked (Msg t.number) (AQueue (unawaited empty_queue)) t.number
     (record l { queue_keys = bind l.queue_keys key t.number 0 })
 
 abbrev pub make_set : Script → Step → Asked → ℕ → SemaphoreSet → Taken → Step
 make_set script step asked key set t =
     let l : Leader = t.node.leader
-    in make_bound script (with_node step t.node) asked (Sem t.number) (ASet set) t.number
+    in make_bound script (with_node step t.node) asked (Sem t.number) (ASet (unawaited set)) t.number
     (record l { set_keys = bind l.set_keys key t.number (length set.semaphores) })
 
 -- msgget and semget by a key (POSIX.1-2017)

@@ -11,6 +11,7 @@ pub mod Calls
 pub mod Ranges
 pub mod Moves
 pub mod Lives
+pub mod Strikes
 pub mod Turn
 pub mod World
 pub mod Run
@@ -19,3 +20,4 @@ pub mod Census
 pub mod Example
 pub mod Examples
 pub mod ComingExamples
+pub mod WaitingExamples

@@ -137,8 +137,8 @@ take_left script n from parcel =
     else None
 
 -- the ExitTo rule: the exit is carried out here
-abbrev pub take_exit : Node → ℕ → Parcel → Option Step
-take_exit n from parcel =
+abbrev pub take_exit : Script → Node → ℕ → Parcel → Option Step
+take_exit script n from parcel =
     if is_from_leader n from && not (list_any (leases_hold n.leases) (names_in parcel))
-    then exit_here (step_to n) parcel
+    then exit_here script (step_to n) parcel
     else None

@@ -1,5 +1,6 @@
 -- A node takes a frame about a queue or set that moves.
 use Rattle.std.specs.Prelude.{ℕ, Bool, false, not, ◌&&◌, nat_eq, if◌then◌else◌, Option, Some, None}
+use Rattle.std.specs.List.{list_all}
 use Rattle.std.specs.Option.{option_map, option_and_then}
 use Rattle.pico_base.specs.declared.numbers.Name.{Name}
 use Rattle.pico_base.specs.declared.script.Script.{Script}
@@ -8,7 +9,7 @@ use Rattle.rpc_frame.specs.declared.frame.Frame.TheVariants as frames
 use Rattle.node_model.specs.Kinds.{is_object, get_named, put_named}
 use Rattle.node_model.specs.Directory.{Directory, Place, At, Coming, place_of, stays, is_coming, held_for, bound_for, arrive}
 use Rattle.node_model.specs.Leases.{leases_hold}
-use Rattle.node_model.specs.Bodies.{Body}
+use Rattle.node_model.specs.Bodies.{Body, waiters_of}
 use Rattle.node_model.specs.Spelling.{pack, read_deed}
 use Rattle.world_model.specs.Node.{Node, is_leader, holds, is_node}
 use Rattle.world_model.specs.Step.{Step, step_to, with_directory, send}
@@ -48,6 +49,10 @@ is_new_here n name = is_object name && (not (holds n name) && not (leases_hold n
 abbrev pub keep : Node → Name → Body → Node
 keep n name body = record n { deeds = put_named n.deeds name body }
 
+-- those who wait there have nodes of the script
+abbrev pub has_nodes : Script → Body → Bool
+has_nodes script body = list_all (λ w. is_node script w.caller) (waiters_of body)
+
 -- the GiveBack rule: the deed goes on to the node that it is bound for, if that stays, or the leader keeps it; then
 -- what was held for it is released
 abbrev pub goes_on_to : Directory → Option ℕ → Option ℕ
@@ -62,7 +67,9 @@ pass_on n name body (Some to) =
 abbrev pub come_back : Script → Node → Name → Body → Option Step
 come_back script n name body =
     let d : Directory = n.leader.directory
-    in release script (held_for d name) (pass_on n name body (goes_on_to d (bound_for d name)))
+    in if has_nodes script body
+    then release script (held_for d name) (pass_on n name body (goes_on_to d (bound_for d name)))
+    else None
 
 abbrev pub take_give_back : Script → Node → ℕ → PackedDeed → Option Step
 take_give_back script n from deed =
@@ -71,11 +78,11 @@ take_give_back script n from deed =
     else None
 
 -- the Grant rule
-abbrev pub receive_deed : Node → Name → Body → Step
-receive_deed n name body = step_to (keep n name body)
+abbrev pub receive_deed : Script → Node → Name → Body → Option Step
+receive_deed script n name body = if has_nodes script body then Some (step_to (keep n name body)) else None
 
-abbrev pub take_grant : Node → ℕ → PackedDeed → Option Step
-take_grant n from deed =
+abbrev pub take_grant : Script → Node → ℕ → PackedDeed → Option Step
+take_grant script n from deed =
     if is_from_leader n from && is_new_here n deed.name
-    then option_map (receive_deed n deed.name) (read_deed deed)
+    then option_and_then (receive_deed script n deed.name) (read_deed deed)
     else None

@@ -16,6 +16,7 @@ use Rattle.kernel_model.specs.SemaphoreSet.{SemaphoreSet, new_set}
 use Rattle.kernel_model.specs.Row.{Row}
 use Rattle.kernel_model.specs.Fitting.{child_vars}
 use Rattle.std.specs.Prelude.{Result, Ok, Err}
+use Rattle.waiting_model.specs.Waiters.{unawaited}
 use Rattle.node_model.specs.Kinds.{for_kind, with_kind, name_of, put_named}
 use Rattle.node_model.specs.Directory.{Directory, has_more, upcoming, with_range, is_known, place_name}
 use Rattle.node_model.specs.Leases.{lease_of, refill}
@@ -90,14 +91,15 @@ make_object script step call name body number =
 
 abbrev pub make_set : Script → Step → Call → ℕ → Result SemaphoreSet Errno → Option Step
 make_set script step call number (Err e) = None
-make_set script step call number (Ok set) = Some (make_object script step call (Sem number) (ASet set) number)
+make_set script step call number (Ok set) =
+    Some (make_object script step call (Sem number) (ASet (unawaited set)) number)
 
 -- the call under way is carried out with this number
 abbrev pub make_with : Script → Step → Call → ℕ → Option Step
 make_with script step (calls.Fork block) number =
     option_map (fork_with script step (calls.Fork block) block number) (own_row step.node)
 make_with script step (calls.MsgGet key create excl) number =
-    Some (make_object script step (calls.MsgGet key create excl) (Msg number) (AQueue empty_queue) number)
+    Some (make_object script step (calls.MsgGet key create excl) (Msg number) (AQueue (unawaited empty_queue)) number)
 make_with script step (calls.SemGet key count create excl) number =
     make_set script step (calls.SemGet key count create excl) number (new_set count)
 make_with script step call number = None

@@ -6,11 +6,11 @@ use Rattle.node_model.specs.declared.held.Held.{Held}
 use Rattle.node_model.specs.declared.held.Held.TheVariants.{Request, Ending}
 use Rattle.node_model.specs.Directory.{is_parcel, parcels_held}
 use Rattle.world_model.specs.Step.{Step}
-use Rattle.world_model.specs.Routes.{route_call}
+use Rattle.world_model.specs.Routes.{route_held}
 use Rattle.world_model.specs.Ends.{AfterEnd, IsHeld, Releases, end_process}
 
--- The first item is taken off: a call is routed, and of a parcel the process ends, and what that releases goes in
--- front. A parcel that isn't held again is gone for good, so there are no more rounds than parcels.
+-- The first item is taken off: a call or a withdrawal is routed, and of a parcel the process ends, and what that
+-- releases goes in front. A parcel that isn't held again is gone for good, so there are no more rounds than parcels.
 
 abbrev pub go_on_after : (List Held → Step → Option Step) → (Step → Option Step) → List Held → AfterEnd → Option Step
 go_on_after next_round go_on rest (IsHeld step) = go_on step
@@ -19,9 +19,10 @@ go_on_after next_round go_on rest (Releases step items) = next_round (items ++ r
 abbrev pub release_round : Script → (List Held → Step → Option Step) → List Held → Step → Option Step
 release_round script next_round [] step = Some step
 release_round script next_round (Request asked ∷ rest) step =
-    option_and_then (release_round script next_round rest) (route_call script step asked)
+    option_and_then (release_round script next_round rest) (route_held script step asked)
 release_round script next_round (Ending parcel ∷ rest) step =
-    option_and_then (go_on_after next_round (release_round script next_round rest) rest) (end_process step parcel)
+    option_and_then (go_on_after next_round (release_round script next_round rest) rest)
+    (end_process script step parcel)
 
 abbrev pub no_round : List Held → Step → Option Step
 no_round items step = None

@@ -8,6 +8,7 @@ use Rattle.pico_base.specs.declared.script.Script.{Script}
 use Rattle.pico_base.specs.Home.{home_of}
 use Rattle.rpc_frame.specs.declared.asked.Asked.{Asked}
 use Rattle.rpc_frame.specs.declared.frame.Frame.TheVariants as frames
+use Rattle.waiting_model.specs.Calls.{withdrawn_from}
 use Rattle.node_model.specs.declared.held.Held.{Held}
 use Rattle.node_model.specs.declared.held.Held.TheVariants.{Request}
 use Rattle.node_model.specs.declared.route.Route.{Route}
@@ -17,7 +18,7 @@ use Rattle.node_model.specs.Directory.{Directory, route, recall, hold}
 use Rattle.node_model.specs.Bodies.{Body, Removed}
 use Rattle.world_model.specs.Node.{Leader}
 use Rattle.world_model.specs.Step.{Step, with_node, with_leader, with_directory, send}
-use Rattle.world_model.specs.Serving.{serve_asked, serve_nobody}
+use Rattle.world_model.specs.Serving.{serve_asked, serve_nobody, withdraw_here}
 use Rattle.world_model.specs.Keys.{without_key, get_by_key}
 
 abbrev pub hold_item : Step → Name → Held → Step
@@ -82,3 +83,28 @@ route_home script step asked homes.Parent = None
 -- the route rule
 abbrev pub route_call : Script → Step → Asked → Option Step
 route_call script step asked = route_home script step asked (home_of asked.pid asked.call)
+
+-- ---- withdrawals
+
+abbrev pub cancel : Step → ℕ → Asked → Step
+cancel step to asked = send step to (frames.Cancel asked)
+
+-- A withdrawal goes the way of its call, which is in front of it. Where the name is nobody's, the call has its reply,
+-- or goes to a node that leaves and doesn't wait there.
+abbrev pub cancel_by : Script → Step → Name → Asked → Route → Step
+cancel_by script step name asked (routes.At node) =
+    if nat_eq node step.node.number then withdraw_here script step name asked else cancel step node asked
+cancel_by script step name asked routes.Coming = hold_item step name (Request asked)
+cancel_by script step name asked (routes.Range node) = cancel step node asked
+cancel_by script step name asked routes.Nobody = step
+
+abbrev pub route_cancel : Script → Step → Name → Asked → Step
+route_cancel script step name asked = cancel_by script step name asked (route step.node.leader.directory name)
+
+-- what the leader held: a call, or the end of a wait
+abbrev pub route_held_by : Script → Step → Asked → Option Name → Option Step
+route_held_by script step asked None = route_call script step asked
+route_held_by script step asked (Some name) = Some (route_cancel script step name asked)
+
+abbrev pub route_held : Script → Step → Asked → Option Step
+route_held script step asked = route_held_by script step asked (withdrawn_from asked.call)

@@ -1,7 +1,9 @@
 -- Runs of the machine: any events, each enabled when it comes.
-use Rattle.std.specs.Prelude.{◌≡◌, true, false, List, [], ◌∷◌, Some}
+use Rattle.std.specs.Prelude.{◌≡◌, Bool, true, false, ◌&&◌, List, [], ◌∷◌, Some, is_some}
+use Rattle.std.specs.List.{list_any}
 use Rattle.pico_base.specs.declared.script.Script.{Script}
 use Rattle.pico_base.specs.declared.script.Event.{Event}
+use Rattle.world_model.specs.Node.{Node, is_living}
 use Rattle.world_model.specs.World.{World, opening_world, step, is_enabled}
 
 -- an enabled event, and what holds of the world that it leads to
@@ -26,3 +28,11 @@ IsReachableWorld script w = (events : List Event) × IsRunOf script events w
 
 abbrev pub IsAtRest : World → Type 0
 IsAtRest w = (e : Event) → is_enabled w e ≡ false
+
+-- A call waits at a node of the world: its process hasn't ended, and no event will end the wait where the world is at
+-- rest.
+abbrev pub has_call_under_way : Node → Bool
+has_call_under_way n = is_living n.stage && is_some n.caller.under_way
+
+abbrev pub is_stalled : World → Bool
+is_stalled w = list_any has_call_under_way w.nodes

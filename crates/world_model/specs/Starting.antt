@@ -14,29 +14,31 @@ use Rattle.pico_base.specs.declared.script.Script.{Script}
 use Rattle.pico_base.specs.Home.{home_of}
 use Rattle.rpc_frame.specs.declared.frame.Frame.TheVariants as frames
 use Rattle.kernel_model.specs.Numbers.{is_u32}
-use Rattle.kernel_model.specs.Waiting.{is_waiting}
 use Rattle.kernel_model.specs.SemaphoreSet.{SemaphoreSet, new_set}
 use Rattle.kernel_model.specs.Row.{Row}
+use Rattle.waiting_model.specs.Calls.{is_withdrawal, may_park}
 use Rattle.node_model.specs.Kinds.{for_kind, put_all}
 use Rattle.node_model.specs.Cache.{owner_in, look}
 use Rattle.node_model.specs.Leases.{is_used_up}
 use Rattle.node_model.specs.Caller.{due_call, start_call}
-use Rattle.node_model.specs.Serving.{Served, serve}
+use Rattle.node_model.specs.Serving.{Served, serve, waiting_as}
 use Rattle.node_model.specs.Parcels.{end_first}
 use Rattle.world_model.specs.Node.{Node, Leaving, Over, is_leader, can_run, holds, own_row, asked_here}
-use Rattle.world_model.specs.Step.{Step, step_to, with_node, with_deeds, send, carry_out}
+use Rattle.world_model.specs.Step.{Step, step_to, with_node, with_deeds, send, carry_out, carry_out_waking}
 use Rattle.world_model.specs.Serving.{serve_asked}
 use Rattle.world_model.specs.Numbers.{make}
 use Rattle.world_model.specs.Routes.{route_call}
 
--- ---- calls on the process itself
+-- ---- calls on the process itself: a `waitpid` that has to wait does so here
 
 abbrev pub carry_out_own : Script → Step → Call → Served → Step
 carry_out_own script step call s =
-    carry_out script (with_deeds step (put_all step.node.deeds s.changes)) (asked_here step.node call) s.reply
+    carry_out_waking script (with_deeds step (put_all step.node.deeds s.changes))
+    (asked_here step.node call) s.own s.wakes
 
 abbrev pub act : Script → Step → Call → Option Step
-act script step call = option_map (carry_out_own script step call) (serve step.node.deeds step.node.pid call)
+act script step call =
+    option_map (carry_out_own script step call) (serve step.node.deeds (waiting_as (asked_here step.node call)))
 
 -- A call that takes a number is carried out with the next number of the node's lease. Where that is used up the node
 -- asks the leader for a range, and the leader takes its own next one.
@@ -80,11 +82,15 @@ request script step call (Some owner) =
 abbrev pub with_look : Node → Name → Node
 with_look n name = record n { cache = look n.cache name }
 
+-- A call that may have to wait is asked of the leader alone: who owns its name when a withdrawal follows it is then
+-- found by the same way.
 abbrev pub start_at : Script → Step → Call → Name → Option Step
 start_at script step call name =
     let n : Node = step.node
     in if holds n name
     then serve_asked script step name (asked_here n call)
+    else if may_park call
+    then ask script step call
     else request script (with_node step (with_look n name)) call (owner_in n.cache name)
 
 -- ---- the end
@@ -115,7 +121,7 @@ start_by script step call row homes.Parent = Some (start_end script step call ro
 
 abbrev pub start : Script → Node → Row → Call → Option Step
 start script n row call =
-    if is_waiting call
+    if is_withdrawal call
     then None
     else start_by script (step_to (record n { caller = start_call n.caller call })) call row (home_of n.pid call)
 

@@ -1,6 +1,7 @@
 -- A node takes a frame: where it may come at all, by the rule of its kind. Where that doesn't apply there is no step.
 use Rattle.std.specs.Prelude.{ℕ, Bool, true, ◌&&◌, not, nat_lt, length, if◌then◌else◌, Option, None}
 use Rattle.std.specs.List.{list_any}
+use Rattle.std.specs.Option.{option_map}
 use Rattle.pico_base.specs.declared.script.Script.{Script}
 use Rattle.rpc_frame.specs.declared.frame.Frame.{Frame}
 use Rattle.rpc_frame.specs.declared.frame.Frame.TheVariants as frames
@@ -13,6 +14,7 @@ use Rattle.world_model.specs.Calls.{take_ask, take_bounce, take_forward, take_re
 use Rattle.world_model.specs.Ranges.{take_lease_ask, take_lease, take_placed}
 use Rattle.world_model.specs.Moves.{take_suggest, take_recall, take_give_back, take_grant}
 use Rattle.world_model.specs.Lives.{take_checkpoint, take_leaving, take_recall_all, take_left, take_exit}
+use Rattle.world_model.specs.Strikes.{strike, take_cancel}
 
 -- ---- which frames may come, whatever sends them
 
@@ -51,12 +53,18 @@ take_by_kind script n from (frames.Checkpoint pid parent deed vars) = take_check
 take_by_kind script n from (frames.Suggest name node) = take_suggest script n from name node
 take_by_kind script n from (frames.Recall name) = take_recall n from name
 take_by_kind script n from (frames.GiveBack deed) = take_give_back script n from deed
-take_by_kind script n from (frames.Grant deed) = take_grant n from deed
+take_by_kind script n from (frames.Grant deed) = take_grant script n from deed
 take_by_kind script n from (frames.Leaving pid parent parent_node) = take_leaving script n from pid parent parent_node
 take_by_kind script n from frames.RecallAll = take_recall_all n from
 take_by_kind script n from (frames.Left parcel) = take_left script n from parcel
-take_by_kind script n from (frames.ExitTo parcel) = take_exit n from parcel
+take_by_kind script n from (frames.ExitTo parcel) = take_exit script n from parcel
+take_by_kind script n from (frames.Cancel asked) = take_cancel script n asked
+
+-- The rule of its kind, and last of all the strike. What a process starts itself needs none: a signal that it sends
+-- itself finds no call of its under way once that has its reply.
+abbrev pub take_by_rules : Script → Node → ℕ → Frame → Option Step
+take_by_rules script n from frame = option_map (strike script) (take_by_kind script n from frame)
 
 -- the step of a frame that comes
 abbrev pub take_frame : Script → Node → ℕ → Frame → Option Step
-take_frame script n from frame = if may_come n from frame then take_by_kind script n from frame else None
+take_frame script n from frame = if may_come n from frame then take_by_rules script n from frame else None
