@@ -27,10 +27,16 @@ use Rattle.kernel_laws.proofs.ValidLaws.{reachable_kernels_are_valid_lemma}
 use Rattle.fork_wait.specs.Children.{are_different, children}
 use Rattle.fork_wait.specs.Spelling.{HasBytes as HasFamilyBytes}
 
--- ---- the numbers that processes have
+-- ---- the numbers that are used
 
-abbrev HasPositive : Kernel → Type 0
-HasPositive k = (n : ℕ) → is_used k.used_processes n ≡ true → is_positive_u32 n ≡ true
+-- each is at least 1, and has four bytes
+abbrev AllPositive : List ℕ → Type 0
+AllPositive used = (n : ℕ) → is_used used n ≡ true → is_positive_u32 n ≡ true
+
+record HasPositive (k : Kernel) : Type 0 where
+  pub processes : AllPositive k.used_processes
+  pub queues : AllPositive k.used_queues
+  pub sets : AllPositive k.used_sets
 
 and-first : (a b : Bool) → (a && b) ≡ true → a ≡ true
 and-first true b h = refl
@@ -44,58 +50,109 @@ both : (a b : Bool) → a ≡ true → b ≡ true → (a && b) ≡ true
 both true b h g = g
 both false b h g = absurd (false≢true h)
 
-positive-forked : (used : List ℕ) (n : ℕ) → is_fresh used n ≡ true
-    → ((q : ℕ) → is_used used q ≡ true → is_positive_u32 q ≡ true) → (q : ℕ) → is_used (used_with used n) q ≡ true
-    → is_positive_u32 q ≡ true
-positive-forked used n fresh before q h =
+-- one more that is fresh
+one-more : (used : List ℕ) (n : ℕ) → is_fresh used n ≡ true → AllPositive used → AllPositive (used_with used n)
+one-more used n fresh before q h =
     elim (cases_eq q n) [
       | inl same ↦
           ap is_positive_u32 same ∙ and-first (is_positive_u32 n) (not (is_used used n)) fresh
       | inr other ↦ before q (sym (used-with-other used n q other) ∙ h)
     ]
 
+-- the numbers stay, or one more of a kind is used
+same-numbers : (k next : Kernel) → HasPositive k → next.used_processes ≡ k.used_processes
+    → next.used_queues ≡ k.used_queues → next.used_sets ≡ k.used_sets → HasPositive next
+same-numbers k next h p q s =
+    record {
+      processes = subst AllPositive (sym p) h.processes;
+      queues = subst AllPositive (sym q) h.queues;
+      sets = subst AllPositive (sym s) h.sets;
+    }
+
 positive-kept : Kept HasPositive
 positive-kept = record {
-  moves = λ k pid call n next outcome s h. record {
-    same = h;
-    forks = λ f. positive-forked k.used_processes n f h;
-    ends = λ ending. h;
-    acts = λ g act kill. h;
-    masks = λ how set. h;
-    raises_own = λ target g t. h;
-    raises_other = λ other target g t. h;
-    reaps = λ which child ending e. h;
-    makes_queue = λ f. h;
-    binds_queue = λ key f. h;
-    sends = λ id class text q after t e. h;
-    receives = λ id class size noerror q r t e. h;
-    limits = λ id qbytes q after t e. h;
-    removes_queue = λ id. h;
-    makes_set = λ count set e f. h;
-    binds_set = λ key count set e f. h;
-    operates = λ id steps set after t e. h;
-    sets_one = λ id num value set after t e. h;
-    fills = λ id values set after t e. h;
-    removes_set = λ id. h;
-  };
-  finishes = λ pid k a h l d. h;
+  moves = λ k pid call n next outcome s h.
+      let stays : (after : Kernel) → after.used_processes ≡ k.used_processes → after.used_queues ≡ k.used_queues
+      → after.used_sets ≡ k.used_sets → HasPositive after =
+      λ after p q t. same-numbers k after h p q t
+      in record {
+        same = h;
+        forks = λ f. record {
+          processes = one-more k.used_processes n f h.processes;
+          queues = h.queues;
+          sets = h.sets;
+        };
+        ends = λ ending. stays _ refl refl refl;
+        acts = λ g act kill. stays _ refl refl refl;
+        masks = λ how set. stays _ refl refl refl;
+        raises_own = λ target g t. stays _ refl refl refl;
+        raises_other = λ other target g t. stays _ refl refl refl;
+        reaps = λ which child ending e. stays _ refl refl refl;
+        makes_queue = λ f. record {
+          processes = h.processes;
+          queues = one-more k.used_queues n f h.queues;
+          sets = h.sets;
+        };
+        binds_queue = λ key f. record {
+          processes = h.processes;
+          queues = one-more k.used_queues n f h.queues;
+          sets = h.sets;
+        };
+        sends = λ id class text q after t e. stays _ refl refl refl;
+        receives = λ id class size noerror q r t e. stays _ refl refl refl;
+        limits = λ id qbytes q after t e. stays _ refl refl refl;
+        removes_queue = λ id. stays _ refl refl refl;
+        makes_set = λ count set e f. record {
+          processes = h.processes;
+          queues = h.queues;
+          sets = one-more k.used_sets n f h.sets;
+        };
+        binds_set = λ key count set e f. record {
+          processes = h.processes;
+          queues = h.queues;
+          sets = one-more k.used_sets n f h.sets;
+        };
+        operates = λ id steps set after t e. stays _ refl refl refl;
+        sets_one = λ id num value set after t e. stays _ refl refl refl;
+        fills = λ id values set after t e. stays _ refl refl refl;
+        removes_set = λ id. stays _ refl refl refl;
+      };
+  finishes = λ pid k a h l d. same-numbers k _ h refl refl refl;
 }
 
 first-positive : HasPositive opening
-first-positive n h =
-    elim (or_cases (nat_eq n 1) false h) [
-      | inl one ↦ ap is_positive_u32 (eqb-true n 1 one)
-      | inr none ↦ absurd (false≢true none)
-    ]
+first-positive =
+    record {
+      processes = λ n h. elim (or_cases (nat_eq n 1) false h) [
+        | inl one ↦ ap is_positive_u32 (eqb-true n 1 one)
+        | inr none ↦ absurd (false≢true none)
+      ];
+      queues = λ n h. absurd (false≢true h);
+      sets = λ n h. absurd (false≢true h);
+    }
+
+are-positive : (k : Kernel) → IsReachableKernel k → HasPositive k
+are-positive k r = kept-along HasPositive positive-kept r.0 opening k r.1 first-positive
 
 -- a used process number is at least 1, and has four bytes
 pub used-is-positive : (k : Kernel) → IsReachableKernel k → (n : ℕ) → is_used k.used_processes n ≡ true
     → is_positive_u32 n ≡ true
-used-is-positive k r = kept-along HasPositive positive-kept r.0 opening k r.1 first-positive
+used-is-positive k r = (are-positive k r).processes
+
+positive-is-small : (n : ℕ) → is_positive_u32 n ≡ true → n < 2 ^ 32
+positive-is-small n h = ltb-true n number_end (and-second (nat_lt 0 n) (is_u32 n) h)
 
 -- a used number of a process has four bytes
 pub used-is-small : (k : Kernel) → IsReachableKernel k → (n : ℕ) → is_used k.used_processes n ≡ true → n < 2 ^ 32
-used-is-small k r n h = ltb-true n number_end (and-second (nat_lt 0 n) (is_u32 n) (used-is-positive k r n h))
+used-is-small k r n h = positive-is-small n (used-is-positive k r n h)
+
+-- so has one of a queue
+pub used-queue-is-small : (k : Kernel) → IsReachableKernel k → (n : ℕ) → is_used k.used_queues n ≡ true → n < 2 ^ 32
+used-queue-is-small k r n h = positive-is-small n ((are-positive k r).queues n h)
+
+-- and of a set
+pub used-set-is-small : (k : Kernel) → IsReachableKernel k → (n : ℕ) → is_used k.used_sets n ≡ true → n < 2 ^ 32
+used-set-is-small k r n h = positive-is-small n ((are-positive k r).sets n h)
 
 -- ---- the children of a process
 

@@ -22,9 +22,9 @@ use Rattle.fork_wait.specs.Reading.{max_children}
 use Rattle.fork_wait.specs.Spelling.{ending_bytes, family_bytes, HasBytes as HasFamilyBytes}
 use Rattle.fork_wait.proofs.Bodies.{bytes_again}
 use Rattle.sysv_msg.specs.Body.{body as queue_bytes}
-use Rattle.sysv_msg.proofs.Bodies.{queue_again}
+use Rattle.sysv_msg.proofs.Bodies.{body-again}
 use Rattle.sysv_sem.specs.Body.{body as set_bytes}
-use Rattle.sysv_sem.proofs.Semaphores.{set_again}
+use Rattle.sysv_sem.proofs.Bodies.{set_again}
 use Rattle.node_model.specs.Bodies.{Body, Living, Ended, Gone, AQueue, ASet, Removed}
 use Rattle.node_model.specs.Spelling.{are_children, are_signals, body_bytes, family_if, is_default, pack, read_body, read_deed, read_ending, read_family, read_process, read_queue, read_row, read_set, read_signals, row_bytes, row_with, signals_from, signals_if, signals_size}
 use Rattle.deed_laws.specs.Spelled.{HasBytes, HasRowBytes}
@@ -137,8 +137,15 @@ deed-again (Proc pid) (ASet s) has = absurd has
 deed-again (Proc pid) Removed has = absurd has
 deed-again (Msg id) (AQueue q) has =
     ap (option_map AQueue)
-    (queue_again q (queue_bytes q)
-    (record { limits = has.limits; sender = has.sender; receiver = has.receiver; spelled = refl }))
+    (body-again (queue_bytes q) q
+    (record {
+      limits = has.limits;
+      waiters = has.waiting.waiters;
+      settled = has.waiting.settled;
+      sender = has.sender;
+      receiver = has.receiver;
+      spelled = refl;
+    }))
 deed-again (Msg id) Removed has = refl
 deed-again (Msg id) (Living row) has = absurd has
 deed-again (Msg id) (Ended e) has = absurd has
@@ -146,7 +153,13 @@ deed-again (Msg id) Gone has = absurd has
 deed-again (Msg id) (ASet s) has = absurd has
 deed-again (Sem id) (ASet s) has =
     ap (option_map ASet)
-    (set_again s (set_bytes s) (record { limits = has.limits; processes = has.processes; spelled = refl }))
+    (set_again (set_bytes s) s
+    (record {
+      rest = record { limits = has.limits; waiters = has.waiting.waiters; settled = has.waiting.settled };
+      processes = has.processes;
+      ranges = has.waiting.ranges;
+      spelled = refl;
+    }))
 deed-again (Sem id) Removed has = refl
 deed-again (Sem id) (Living row) has = absurd has
 deed-again (Sem id) (Ended e) has = absurd has

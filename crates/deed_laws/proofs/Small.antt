@@ -383,13 +383,14 @@ small-left (Proc p) (AQueue q) pid call h low small = h
 small-left (Proc p) (ASet s) pid call h low small = h
 small-left (Proc p) Removed pid call h low small = tt
 small-left (Msg id) (AQueue q) pid call h low small =
-    removed-or (is_removal call) _ _ tt (small-queue q pid call h low small)
+    removed-or (is_removal call) _ _ tt (small-queue q.state pid call h low small)
 small-left (Msg id) (Living row) pid call h low small = h
 small-left (Msg id) (Ended e) pid call h low small = tt
 small-left (Msg id) Gone pid call h low small = tt
 small-left (Msg id) (ASet s) pid call h low small = h
 small-left (Msg id) Removed pid call h low small = tt
-small-left (Sem id) (ASet s) pid call h low small = removed-or (is_removal call) _ _ tt (small-set s pid call h low)
+small-left (Sem id) (ASet s) pid call h low small =
+    removed-or (is_removal call) _ _ tt (small-set s.state pid call h low)
 small-left (Sem id) (Living row) pid call h low small = h
 small-left (Sem id) (Ended e) pid call h low small = tt
 small-left (Sem id) Gone pid call h low small = tt

@@ -30,10 +30,11 @@ HasSmallLast s = s.last < 2 ^ 32
 abbrev pub IsSmallSet : SemaphoreSet → Type 0
 IsSmallSet s = All HasSmallLast s.semaphores
 
+-- whoever waits there
 abbrev pub IsSmall : Body → Type 0
 IsSmall (Living row) = AreSmallSignals row.signals
-IsSmall (AQueue queue) = IsSmallQueue queue
-IsSmall (ASet set) = IsSmallSet set
+IsSmall (AQueue queue) = IsSmallQueue queue.state
+IsSmall (ASet set) = IsSmallSet set.state
 IsSmall body = Unit {0}
 
 -- a call whose message's type has four bytes

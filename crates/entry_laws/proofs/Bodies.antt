@@ -1,16 +1,14 @@
 -- From what a kernel has as a process's body to the process, and back; what tells two kernels with the same bodies
 -- nothing apart but what processes may still do.
-use Rattle.std.proofs.Common.{◌≡◌, ℕ, true, Option, Some, None, refl, ap, sym, ◌∙◌}
-use Rattle.std.specs.Prelude.{is_some}
+use Rattle.std.proofs.Common.{◌≡◌, ℕ, Option, Some, None, refl, ap}
 use Rattle.std.specs.Option.{option_and_then}
 use Rattle.pico_base.specs.declared.numbers.Name.TheVariants.{Proc}
-use Rattle.pico_base.specs.declared.reply.Ending.{Ending}
 use Rattle.number_maps.specs.Maps.{get}
 use Rattle.kernel_model.specs.Row.{Alive, Row}
 use Rattle.kernel_model.specs.Kernel.{Kernel, Process, alive_in, living_at}
 use Rattle.kernel_model.specs.Kernel as kernel
 use Rattle.kernel_laws.proofs.People.{from-living}
-use Rattle.node_model.specs.Bodies.{Living, Ended, Gone, body_in, process_body}
+use Rattle.node_model.specs.Bodies.{Living, body_in, process_body}
 use Rattle.entry_laws.specs.Entering.{HasRow}
 
 -- a living process's body is its row

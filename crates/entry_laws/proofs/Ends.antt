@@ -21,18 +21,21 @@ use Rattle.kernel_model.specs.Effect.{Effect, reply_alone}
 use Rattle.kernel_model.specs.ProcessCalls.{bury, bury_all, end_process, end_under}
 use Rattle.kernel_model.specs.Transition.{effect}
 use Rattle.kernel_model.specs.Valid.{IsValid}
+use Rattle.waiting_model.specs.ProcessCalls.{wakes_under}
 use Rattle.node_model.specs.Kinds.{get_named, is_object, put_all}
-use Rattle.node_model.specs.Bodies.{Body, Living, Ended, Gone, AQueue, ASet, Removed, Deeds, body_in, process_body, queue_body, set_body}
-use Rattle.node_model.specs.Parcels.{all_gone, commit_exit, end_first, ending_of, fits_bodies, has_own_row, is_held_none, kernel_after_end, lets_end, may_end_with, names_after_end}
-use Rattle.node_model.specs.Serving.{parts_in}
-use Rattle.serve_laws.specs.Ends.{AgreesOnEnd, IsEnded, is_among}
+use Rattle.node_model.specs.Bodies.{Body, Living, Ended, Gone, AQueue, ASet, Removed, Deeds, body_in, is_living_body, process_body, queue_body, set_body}
+use Rattle.node_model.specs.Parcels.{Committed, all_gone, commit_exit, committed, end_first, ending_of, fits_bodies, has_own_row, is_held_none, lets_end, may_end_with, parent_with}
+use Rattle.serve_laws.specs.Ends.{AgreesOnEnd, IsEnded, WakesOrNot, is_among}
+use Rattle.serve_laws.specs.Served.{MakesOwn}
 use Rattle.serve_laws.proofs.Ends.{ends-are-the-kernels, fits-parts}
+use Rattle.serve_laws.proofs.Waking.{ends-wake-in-line}
 use Rattle.serve_laws.proofs.KernelEnds.{HasEnded, ends-under, kept_by, left_by}
 use Rattle.serve_laws.proofs.Puts.{each-in, each-out, put_each}
 use Rattle.entry_laws.specs.Entering.{Enters, IsChildOf, KeepsKeys, MayMake}
 use Rattle.entry_laws.proofs.Bodies.{living-body}
 use Rattle.entry_laws.proofs.Families.{no-parent, parent-number}
-use Rattle.entry_laws.proofs.Making.{finished, finished-is-like, enters-by, keys-finished}
+use Rattle.entry_laws.proofs.Holding.{ended-apart}
+use Rattle.entry_laws.proofs.Making.{finished, finished-is-like, enters-by, keys-finished, steps-by}
 
 -- ---- the effect of an end
 
@@ -98,19 +101,22 @@ lets-end child (AQueue q) h = refl
 lets-end child (ASet s) h = refl
 lets-end child Removed h = refl
 
--- what the exit changes of the deeds that are held
+-- what the exit comes to for the deeds that are held, where the parent waits with this call, or with none
+abbrev pub exit_comes_to : Parcel → Numbered Body → Option Call → Body → Committed
+exit_comes_to parcel bodies waits parent =
+    committed parcel bodies waits parent
+    (wakes_under parcel.pid (ending_of parcel.call) (parent_with parcel.parent waits parent))
+
+-- where it waits with none
 abbrev pub exit_changes : Parcel → Numbered Body → Body → List (Name × Body)
-exit_changes parcel bodies parent =
-    all_gone (map (λ e. e.0) bodies)
-    ++ parts_in (kernel_after_end parcel.pid parcel.parent parent (ending_of parcel.call))
-    (names_after_end parcel.pid parcel.parent parent)
+exit_changes parcel bodies parent = let c : Committed = exit_comes_to parcel bodies None parent in c.changes
 
 -- an end that may be carried out is, with these changes
 pub commits : (k : Kernel) (deeds : Deeds) (parcel : Parcel) (bodies : Numbered Body) (row : Row) (parent : Body)
-    → MayEnd k deeds parcel bodies row parent
-    → commit_exit parcel bodies parent ≡ Some (exit_changes parcel bodies parent)
-commits k deeds parcel bodies row parent m =
-    ap (λ (t : Bool). if t then Some (exit_changes parcel bodies parent) else None)
+    → MayEnd k deeds parcel bodies row parent → (waits : Option Call)
+    → commit_exit parcel bodies waits parent ≡ Some (exit_comes_to parcel bodies waits parent)
+commits k deeds parcel bodies row parent m waits =
+    ap (λ (t : Bool). if t then Some (exit_comes_to parcel bodies waits parent) else None)
     (lets-end parcel.pid parent m.child_of.listed)
 
 may-end : (call : Call) (row : Row) (o : Option Body) → o ≡ Some (Living row) → has_own_row call o ≡ true
@@ -204,11 +210,12 @@ unfolding agrees
 ends-here k deeds parcel bodies row parent m may =
     let own = (fits-parts deeds parcel bodies may.fits).own
     in let e : Effect = end_process k parcel.pid m.alive (ending_of parcel.call)
+    in let ends : effect k parcel.pid m.alive parcel.call 0 ≡ Some e =
+    end-effect k parcel.pid 0 m.alive row parcel.call
+    (may-end parcel.call row (get bodies parcel.pid) may.brought own)
+    in let step = steps-by k parcel.pid parcel.call e m ends
     in let enters : Enters k parcel.pid parcel.call replies.Ended None (finished e.kernel parcel.pid) =
-    enters-by k parcel.pid parcel.call e None m
-    (end-effect k parcel.pid 0 m.alive row parcel.call
-    (may-end parcel.call row (get bodies parcel.pid) may.brought own))
-    (λ kind. refl)
+    enters-by k parcel.pid parcel.call e None m ends (λ kind. refl)
     in let like = finished-is-like e.kernel parcel.pid
     in let apart : parcel.parent ≢ parcel.pid = parent-apart k deeds parcel bodies row parent may
     in let among = parent-not-among k deeds parcel bodies row parent may
@@ -238,12 +245,39 @@ ends-here k deeds parcel bodies row parent m may =
         apart = apart;
         not_among = among;
       };
-      ended = ends-are-the-kernels k deeds parcel bodies (exit_changes parcel bodies parent) 0
+      ended = ends-are-the-kernels k deeds parcel bodies (exit_comes_to parcel bodies None parent) 0
           (finished e.kernel parcel.pid) (reply_alone replies.Ended) m.valid may.fits
-          (agrees k deeds parcel bodies row parent m.valid may) (commits k deeds parcel bodies row parent may)
-          enters.makes.step;
+          (agrees k deeds parcel bodies row parent m.valid may) (commits k deeds parcel bodies row parent may None)
+          step;
       keys = keys-finished k e.kernel parcel.pid (end-keys k parcel.pid m.alive (ending_of parcel.call));
     }
+
+-- a parent that lives isn't its own child
+parent-makes : (k : Kernel) (parcel : Parcel) (parent : Body) → IsValid k → body_in k (Proc parcel.parent) ≡ parent
+    → is_living_body parent ≡ true → MakesOwn parcel.parent parent
+parent-makes k parcel (Living row) valid is lives =
+    record {
+      row = row;
+      lives = refl;
+      apart = λ child ending kept. ended-apart k parcel.parent row valid is child ending kept;
+    }
+parent-makes k parcel (Ended e) valid is lives = absurd (false≢true lives)
+parent-makes k parcel Gone valid is lives = absurd (false≢true lives)
+parent-makes k parcel (AQueue q) valid is lives = absurd (false≢true lives)
+parent-makes k parcel (ASet s) valid is lives = absurd (false≢true lives)
+parent-makes k parcel Removed valid is lives = absurd (false≢true lives)
+
+-- Where the parent waits with this call, it may have its reply then, which in line is that call at once.
+pub ends-wake : (k : Kernel) (deeds : Deeds) (parcel : Parcel) (bodies : Numbered Body) (row : Row) (parent : Body)
+    → MayMake k parcel.pid parcel.call → MayEnd k deeds parcel bodies row parent → (waits : Call)
+    → WakesOrNot parcel waits deeds (exit_comes_to parcel bodies (Some waits) parent)
+    (exit_comes_to parcel bodies None parent) (exit_comes_to parcel bodies (Some waits) parent).wakes
+ends-wake k deeds parcel bodies row parent m may waits =
+    ends-wake-in-line parcel bodies waits parent deeds (exit_comes_to parcel bodies (Some waits) parent)
+    (exit_comes_to parcel bodies None parent)
+    (λ same. parent-apart k deeds parcel bodies row parent may (sym same))
+    (parent-makes k parcel parent m.valid may.child_of.is) (commits k deeds parcel bodies row parent may None)
+    (commits k deeds parcel bodies row parent may (Some waits))
 
 -- ---- the first process
 

@@ -6,7 +6,7 @@ use Rattle.std.proofs.lemmas.Bool.{cases_Bool, eq-eqb, ne_eqb, eqb-true, or_left
 use Rattle.pico_base.specs.declared.numbers.Name.TheVariants.{Proc}
 use Rattle.pico_base.specs.declared.reply.Ending.{Ending}
 use Rattle.number_maps.proofs.LookUps.{filter-kept, filter-dropped}
-use Rattle.kernel_model.specs.Row.{Alive, Family, Row, family_after_end, lists, no_family, others, with_child}
+use Rattle.kernel_model.specs.Row.{Alive, Family, Row, family_after_end, lists, others, with_child}
 use Rattle.kernel_model.specs.Kernel.{Kernel, Parent, living_at, parent_in}
 use Rattle.kernel_model.specs.Footprint.{parent_number}
 use Rattle.kernel_model.specs.Valid.{IsValid}

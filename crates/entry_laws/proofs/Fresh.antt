@@ -27,18 +27,21 @@ use Rattle.kernel_model.specs.History.{number_in}
 use Rattle.kernel_model.specs.Footprint.{used_of}
 use Rattle.kernel_model.specs.Valid.{IsValid}
 use Rattle.kernel_laws.proofs.People.{from-living}
+use Rattle.waiting_model.specs.Linear.{at_once}
+use Rattle.waiting_model.specs.Waiters.{unawaited}
 use Rattle.node_model.specs.Kinds.{number_of}
 use Rattle.node_model.specs.Bodies.{Body, Living, Gone, AQueue, ASet, Removed, body_in, process_body, queue_body, set_body}
 use Rattle.node_model.specs.Carrying.{is_served, on_body}
 use Rattle.node_model.specs.Serving.{child_body, name_for, no_such_name, parent_body}
-use Rattle.serve_laws.specs.Laws.{is_found}
+use Rattle.serve_laws.specs.Served.{DoesLine, Does, Line, line}
 use Rattle.entry_laws.specs.Entering.{Enters, KeepsBodies, KeepsKeys, MayMake, is_used_name, removed_queue, removed_set, unless_removed, used_after}
 use Rattle.entry_laws.proofs.Bodies.{living-body, body-living}
 use Rattle.entry_laws.proofs.Keys.{size-same}
+use Rattle.entry_laws.proofs.Lined.{Lined, lined}
 use Rattle.entry_laws.proofs.Making.{finished, finished-is-like, enters-by, keys-finished, keys-same}
 use Rattle.entry_laws.proofs.Names.{name-cases}
 use Rattle.entry_laws.proofs.Others.{Lived}
-use Rattle.entry_laws.proofs.Served.{Carried, absent-other, carried, carried-size, lived-finished, some-is}
+use Rattle.entry_laws.proofs.Served.{absent-other, lived-finished, some-is}
 
 -- ---- entries that change nothing
 
@@ -123,31 +126,31 @@ on-nothing (Proc p) pid call = refl
 on-nothing (Msg id) pid call = refl
 on-nothing (Sem id) pid call = refl
 
--- A call on a name whose number nothing has, or had, is refused, and changes nothing.
-pub nobody : (k : Kernel) (pid : ℕ) (call : Call) (name : Name) → MayMake k pid call → is_served call ≡ true
-    → name_for pid call ≡ Some name → is_used_name k name ≡ false
+-- A call on a name whose number nothing has, or had, is refused, and changes nothing. So is one that may have to wait.
+pub nobody : (k : Kernel) (pid : ℕ) (call : Call) (name : Name) → MayMake k pid call
+    → is_served (at_once call) ≡ true → name_for pid call ≡ Some name → is_used_name k name ≡ false
     → LeavesAll k pid call (replies.Fail (no_such_name name))
 nobody k pid call name m served named unused =
-    let c : Carried k pid call name = carried k pid call name m served named
+    let reply : Reply = replies.Fail (no_such_name name)
+    in let l : Line = line pid call reply
     in let body : body_in k name ≡ nothing_at name = unused-body k name m.valid unused
-    in let is = ap (λ (b : Body). on_body name b pid call) body ∙ on-nothing name pid call
-    in let answer : c.reply ≡ replies.Fail (no_such_name name) = c.follows.reply ∙ ap (λ d. d.reply) is
+    in let does : DoesLine name (body_in k name) l (body_in k name) =
+    subst (λ (b : Body). DoesLine name b l b) (sym body) (Does _ (on-nothing name pid (at_once call)) refl refl)
+    in let c : Lined k name l (body_in k name) = lined k name l (body_in k name) m served named does
     in let sets : (key : ℕ) → get c.next.set_keys key ≡ get k.set_keys key =
     λ key. c.set_keys key ∙ nobody-set-keys k pid call name m.valid named unused key
     in record {
       next = c.next;
-      enters = subst (λ (r : Reply). Enters k pid call r None c.next) answer c.enters;
+      enters = c.enters;
       bodies = λ other.
           elim (name-cases other name) [
-            | inl same ↦
-                ap (body_in c.next) same ∙ c.follows.there ∙ ap (λ d. d.left) is ∙ sym body
-                ∙ sym (ap (body_in k) same)
-            | inr apart ↦ c.follows.others other apart (ap (λ (r : Reply). is_found r other) answer)
+            | inl same ↦ ap (body_in c.next) same ∙ c.there ∙ sym (ap (body_in k) same)
+            | inr apart ↦ c.others other apart refl
           ];
       keys = record {
         queues = λ key. c.queue_keys key ∙ nobody-queue-keys k pid call name m.valid named unused key;
         sets = sets;
-        sizes = λ key id bound. carried-size k pid call name c named key id (sets key ∙ bound);
+        sizes = λ key id bound. c.sizes key id (sets key ∙ bound);
       };
       caller = c.caller;
     }
@@ -276,7 +279,7 @@ queue-rest k keys n (Msg i) other =
 -- msgget with IPC_PRIVATE
 pub makes-private-queue : (k : Kernel) (pid n : ℕ) (create excl : Bool) → MayMake k pid (calls.MsgGet None create excl)
     → is_used k.used_queues n ≡ false → is_positive_u32 n ≡ true
-    → MakesPrivate k pid (calls.MsgGet None create excl) (Msg n) (AQueue empty_queue)
+    → MakesPrivate k pid (calls.MsgGet None create excl) (Msg n) (AQueue (unawaited empty_queue))
 makes-private-queue k pid n create excl m unused low =
     let j : Kernel = with_new_queue k k.queue_keys n
     in let e : Effect = reply_with j n
@@ -327,7 +330,7 @@ bound-apart k n key id valid unused bound same =
 pub makes-private-set : (k : Kernel) (pid n count : ℕ) (create excl : Bool) (set : SemaphoreSet)
     → MayMake k pid (calls.SemGet None count create excl) → new_set count ≡ Ok set
     → is_used k.used_sets n ≡ false → is_positive_u32 n ≡ true
-    → MakesPrivate k pid (calls.SemGet None count create excl) (Sem n) (ASet set)
+    → MakesPrivate k pid (calls.SemGet None count create excl) (Sem n) (ASet (unawaited set))
 makes-private-set k pid n count create excl set m sized unused low =
     let j : Kernel = with_new_set k k.set_keys n set
     in let e : Effect = reply_with j n

@@ -13,6 +13,7 @@ use Rattle.number_maps.specs.Rising.{IsRising}
 use Rattle.number_maps.proofs.LookUps.{get-put-same, get-put-other}
 use Rattle.number_maps.proofs.Rising.{rising-put}
 use Rattle.kernel_model.specs.Kernel.{Kernel, opening}
+use Rattle.kernel_model.specs.Effect.{reply_alone}
 use Rattle.kernel_model.specs.Transition.{successor, transition}
 use Rattle.kernel_model.specs.History.{Replays, number_in}
 use Rattle.kernel_model.specs.Script.{is_fork}
@@ -22,14 +23,35 @@ use Rattle.kernel_laws.proofs.ValidLaws.{children_have_one_parent_lemma, reachab
 use Rattle.kernel_model.specs.Row.{Alive}
 use Rattle.kernel_model.specs.Kernel.{living_at}
 use Rattle.kernel_model.specs.Transition.{may_make}
+use Rattle.waiting_model.specs.Linear.{LeadInLine, LeadsTo, Does, Counts, BreaksOff, at_once}
 use Rattle.entry_laws.specs.Entering.{HasHistory, Makes, MayMake}
 use Rattle.node_model.specs.Entries.{entry_by}
 
 -- ---- what a history gives
 
-pub history-reachable : (script : Script) (journal : List Entry) (k : Kernel) (places : Places)
-    → HasHistory script journal k places → IsReachableKernel k
-history-reachable script journal k places h = (journal, h.legal)
+-- the same kernel by a history where nobody waits
+replayed : (k last : Kernel) (e : Entry) (next : Kernel) → LeadsTo k e next
+    → (history : List Entry) × Replays next history last → (history : List Entry) × Replays k history last
+replayed k last e next (Does step) rest = (
+  record e { call = at_once e.call } ∷ rest.0,
+  record { next = next; step = step; rest = rest.1 },
+)
+replayed k last e next (Counts n counts is step) rest = (
+  record e { outcome = reply_alone (replies.Num 0) } ∷ rest.0,
+  record { next = next; step = step; rest = rest.1 },
+)
+replayed k last e next (BreaksOff error parks broken is same) rest =
+    (rest.0, subst (λ (j : Kernel). Replays j rest.0 last) same rest.1)
+
+at-once-history : (k last : Kernel) (lines : List Entry) → LeadInLine k lines last
+    → (history : List Entry) × Replays k history last
+at-once-history k last [] h = ([], h)
+at-once-history k last (e ∷ lines) h = replayed k last e h.next h.leads (at-once-history h.next last lines h.rest)
+
+-- where lines lead to a kernel, entries of a legal history lead to it
+pub history-reachable : (script : Script) (lines : List Entry) (k : Kernel) (places : Places)
+    → HasHistory script lines k places → IsReachableKernel k
+history-reachable script lines k places h = at-once-history opening k lines h.legal
 
 -- a process that lives and may make a call, in the kernel that a history leads to
 pub may-make-from : (script : Script) (journal : List Entry) (k : Kernel) (places : Places) (pid : ℕ) (call : Call)
@@ -60,6 +82,14 @@ replays-more k mid next [] e p t =
     }
 replays-more k mid next (f ∷ entries) e p t =
     record { next = p.next; step = p.step; rest = replays-more p.next mid next entries e p.rest t }
+
+-- and so do lines
+pub leads-more : (k mid next : Kernel) (lines : List Entry) (e : Entry) → LeadInLine k lines mid → LeadsTo mid e next
+    → LeadInLine k (lines ++ e ∷ []) next
+leads-more k mid next [] e p leads =
+    record { next = next; leads = subst (λ (x : Kernel). LeadsTo x e next) (sym p) leads; rest = refl }
+leads-more k mid next (f ∷ lines) e p leads =
+    record { next = p.next; leads = p.leads; rest = leads-more p.next mid next lines e p.rest leads }
 
 pub fits-more : (s : Script) (ps mid : Places) (entries : List Entry) (e : Entry) (place : Place)
     → FitsFrom s ps entries mid → get mid e.pid ≡ Some place → IsDue place e.call → HasReplyAlone e.outcome
@@ -98,7 +128,7 @@ pub history-goes-on : (script : Script) (journal : List Entry) (k : Kernel) (pla
 history-goes-on script journal k places node pid call reply place next h there due makes =
     let e : Entry = entry_by node pid call reply
     in record {
-      legal = replays-more opening k next journal e h.legal makes.step;
+      legal = leads-more opening k next journal e h.legal (makes.leads node);
       fits = fits-more script (opening_places script) places journal e place h.fits there due
           (record { reply = reply; alone = refl });
       ordered = forked-ordered script (put places pid (move_on place call (Some reply))) place call (Some reply)

@@ -24,6 +24,7 @@ use Rattle.kernel_model.specs.Effect.{Effect, reply_with, refuse}
 use Rattle.kernel_model.specs.QueueCalls.{get_queue_at}
 use Rattle.kernel_model.specs.SetCalls.{find_set, get_set_at, new_set_of, set_size}
 use Rattle.kernel_model.specs.History.{number_in}
+use Rattle.waiting_model.specs.Waiters.{unawaited}
 use Rattle.node_model.specs.Bodies.{Body, AQueue, ASet, body_in, queue_body, set_body}
 use Rattle.entry_laws.specs.Entering.{HasKeys, MayMake, bound_to}
 use Rattle.entry_laws.proofs.Fresh.{LeavesAll, MakesObject, bound-apart, fresh-is, leaves-all, queue-rest, queue-used, set-rest, set-used, with_new_queue, with_new_set}
@@ -105,7 +106,7 @@ pub makes-keyed-queue : (queue_keys set_keys : Numbered Bound) (k : Kernel) (pid
     → MayMake k pid (calls.MsgGet (Some key) create excl) → HasKeys queue_keys set_keys k
     → key_answer (get queue_keys key) create excl ≡ answers.Create
     → is_used k.used_queues n ≡ false → is_positive_u32 n ≡ true
-    → MakesBound k pid (calls.MsgGet (Some key) create excl) (Msg n) (AQueue empty_queue)
+    → MakesBound k pid (calls.MsgGet (Some key) create excl) (Msg n) (AQueue (unawaited empty_queue))
     (put queue_keys key (bound_to n 0)) set_keys
 makes-keyed-queue queue_keys set_keys k pid key n create excl m h answer unused low =
     let keys : Numbered ℕ = put k.queue_keys key n
@@ -226,7 +227,7 @@ pub makes-keyed-set : (queue_keys set_keys : Numbered Bound) (k : Kernel) (pid k
     (set : SemaphoreSet) → MayMake k pid (calls.SemGet (Some key) count create excl) → HasKeys queue_keys set_keys k
     → key_answer (get set_keys key) create excl ≡ answers.Create → new_set count ≡ Ok set
     → is_used k.used_sets n ≡ false → is_positive_u32 n ≡ true
-    → MakesBound k pid (calls.SemGet (Some key) count create excl) (Sem n) (ASet set) queue_keys
+    → MakesBound k pid (calls.SemGet (Some key) count create excl) (Sem n) (ASet (unawaited set)) queue_keys
     (put set_keys key (bound_to n (length set.semaphores)))
 makes-keyed-set queue_keys set_keys k pid key n count create excl set m h answer sized unused low =
     let keys : Numbered ℕ = put k.set_keys key n
@@ -237,7 +238,7 @@ makes-keyed-set queue_keys set_keys k pid key n count create excl set m h answer
     in let gives =
     set-creates k key count n create excl (get k.set_keys key)
     (answered set_keys key create excl _ _ (h.sets key) answer)
-    in let there : body_in (finished j pid) (Sem n) ≡ ASet set =
+    in let there : body_in (finished j pid) (Sem n) ≡ ASet (unawaited set) =
     like.bodies (Sem n) ∙ ap set_body (get-put-same k.sets n set)
     in record {
       object = record {

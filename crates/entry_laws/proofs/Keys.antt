@@ -16,6 +16,7 @@ use Rattle.kernel_model.specs.Kernel.{Kernel}
 use Rattle.kernel_model.specs.QueueCalls.{unbind}
 use Rattle.kernel_model.specs.SemaphoreSet.{SemaphoreSet}
 use Rattle.kernel_model.specs.SetCalls.{set_size}
+use Rattle.waiting_model.specs.Waiters.{unawaited}
 use Rattle.node_model.specs.Bodies.{Body, ASet, body_in, set_body}
 use Rattle.entry_laws.specs.Entering.{HasKeys, KeepsKeys, bound_to, other_than, unless_removed, without_keys_of}
 
@@ -49,7 +50,7 @@ get-unbound keys id key rises = get-filtered (λ v. v) id keys key rises
 
 -- how many semaphores a body has
 unfoldable pub size_in : Body → ℕ
-size_in (ASet set) = length set.semaphores
+size_in (ASet set) = length set.state.semaphores
 size_in body = 0
 
 size-by : (o : Option SemaphoreSet) → option_map_or (λ set. length set.semaphores) o 0 ≡ size_in (set_body o)
@@ -66,7 +67,7 @@ size-by-body j k id same = size-by (get j.sets id) ∙ same ∙ sym (size-by (ge
 pub size-same : (j k : Kernel) (id : ℕ) → body_in j (Sem id) ≡ body_in k (Sem id) → set_size j id ≡ set_size k id
 size-same j k id same = size-by (get j.sets id) ∙ ap size_in same ∙ sym (size-by (get k.sets id))
 
-pub size-of-set : (k : Kernel) (id : ℕ) (s : SemaphoreSet) → body_in k (Sem id) ≡ ASet s
+pub size-of-set : (k : Kernel) (id : ℕ) (s : SemaphoreSet) → body_in k (Sem id) ≡ ASet (unawaited s)
     → set_size k id ≡ length s.semaphores
 unfolding size_in
 size-of-set k id s is = size-by (get k.sets id) ∙ ap size_in is
@@ -118,7 +119,7 @@ keys-bind-queue queue_keys set_keys k next key id h keys others sets = record {
 -- a new set's key, with its size
 pub keys-bind-set : (queue_keys set_keys : Numbered Bound) (k next : Kernel) (key id : ℕ) (set : SemaphoreSet)
     → HasKeys queue_keys set_keys k → next.queue_keys ≡ k.queue_keys → next.set_keys ≡ put k.set_keys key id
-    → body_in next (Sem id) ≡ ASet set
+    → body_in next (Sem id) ≡ ASet (unawaited set)
     → ((other : ℕ) → other ≢ id → body_in next (Sem other) ≡ body_in k (Sem other))
     → ((q other : ℕ) → get k.set_keys q ≡ Some other → other ≢ id)
     → HasKeys queue_keys (put set_keys key (bound_to id (length set.semaphores))) next

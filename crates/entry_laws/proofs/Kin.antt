@@ -16,17 +16,21 @@ use Rattle.kernel_model.specs.Kernel as kernel
 use Rattle.kernel_model.specs.Valid.{IsValid, ListsEnded}
 use Rattle.kernel_laws.proofs.Living.{family-ended_child}
 use Rattle.kernel_laws.proofs.Members.{contains-cases, contains-none, ended-new, ended-stays, without-on}
-use Rattle.node_model.specs.Bodies.{Body, Living, Ended, Gone, AQueue, ASet, Removed, body_in, free_to_act, process_body}
-use Rattle.node_model.specs.Carrying.{on_body, on_row}
+use Rattle.node_model.specs.Bodies.{Body, Living, Ended, Gone, AQueue, ASet, Removed, body_in, process_body}
+use Rattle.waiting_model.specs.Linear.{at_once}
+use Rattle.node_model.specs.Carrying.{Done, on_body, on_row}
 use Rattle.node_model.specs.Serving.{child_body, name_for, parent_body}
 use Rattle.serve_laws.specs.Ends.{is_among}
 use Rattle.serve_laws.specs.Laws.{is_found}
+use Rattle.serve_laws.specs.Served.{DoesLine, Does, Counts, BreaksOff, Line}
+use Rattle.serve_laws.proofs.Committed.{free_alive}
 use Rattle.serve_laws.proofs.KernelEnds.{kept_by, left_by}
 use Rattle.entry_laws.specs.Entering.{AreKin, IsChildIn, IsKin, KeepsEnding, MayMake, SameKind, Same, Lives, family_after}
 use Rattle.entry_laws.proofs.Bodies.{body-living, living-body}
 use Rattle.entry_laws.proofs.Ends.{EndBodies, among-kept}
 use Rattle.entry_laws.proofs.Families.{lists-child-new, lists-child-not, lists-child-on, lists-end-not, lists-end-on, lists-end-still-not}
 use Rattle.entry_laws.proofs.Fresh.{Forks}
+use Rattle.entry_laws.proofs.Lined.{Lined, lined-finds}
 use Rattle.entry_laws.proofs.Names.{name-cases}
 use Rattle.entry_laws.proofs.Replies.{finds, none-found, row-family}
 use Rattle.entry_laws.proofs.Served.{Carried, carried-finds}
@@ -284,6 +288,75 @@ kin-found k next pid child row ending p q valid f there h =
           ]
     ])
 
+-- what a line leaves of the name's body
+line-kind : (p : ℕ) (l : Line) (before left : Body) → finds l.reply ≡ false → DoesLine (Proc p) before l left
+    → SameKind before left
+line-kind p l before left none (Does d is left_is reply_is) =
+    kind-by p l.pid (at_once l.call) before left l.reply (sym left_is ∙ ap (λ (x : Done Body). x.left) (sym is))
+    (sym reply_is ∙ ap (λ (x : Done Body). x.reply) (sym is)) none
+line-kind p l before left none (Counts n counts reply_is is) =
+    kind-by p l.pid l.call before left (replies.Num 0) (ap (λ (x : Done Body). x.left) (sym is))
+    (ap (λ (x : Done Body). x.reply) (sym is)) refl
+line-kind p l before left none (BreaksOff parks reply_is same) = Same same
+
+-- a line that finds no child leaves each process as it was for its family
+pub lined-kind : (k : Kernel) (name : Name) (l : Line) (left : Body) (c : Lined k name l left) → finds l.reply ≡ false
+    → (p : ℕ) → SameKind (body_in k (Proc p)) (body_in c.next (Proc p))
+lined-kind k name l left c none p =
+    elim (name-cases (Proc p) name) [
+      | inl same ↦
+          subst (SameKind (body_in k (Proc p))) (sym (ap (body_in c.next) same ∙ c.there))
+          (line-kind p l (body_in k (Proc p)) left none
+          (subst (λ (n : Name). DoesLine n (body_in k n) l left) (sym same) c.does))
+      | inr other ↦ Same (c.others (Proc p) other (none-found l.reply none (Proc p)))
+    ]
+
+proc-same : (a b : ℕ) → Proc a ≡ Proc b → a ≡ b
+proc-same a b h = cc
+
+-- what is left of who finds a child
+record LeavesOne (row : Row) (child : ℕ) (left : Body) : Type 0 where
+  pub after : Row
+  pub is : left ≡ Living after
+  pub family : after.family ≡ without_ended child row.family
+
+line-finds : (l : Line) (left : Body) (row : Row) (child : ℕ) (ending : Ending) → l.reply ≡ replies.Child child ending
+    → DoesLine (Proc l.pid) (Living row) l left → LeavesOne row child left
+line-finds l left row child ending is (Does d on left_is reply_is) =
+    let answer : (on_row row l.pid (at_once l.call)).reply ≡ replies.Child child ending =
+    ap (λ (x : Done Body). x.reply) on ∙ reply_is ∙ is
+    in record {
+      after = (on_row row l.pid (at_once l.call)).left;
+      is = sym left_is ∙ ap (λ (x : Done Body). x.left) (sym on);
+      family = row-family row l.pid (at_once l.call) ∙ ap (λ (r : Reply). family_after r row.family) answer;
+    }
+line-finds l left row child ending is (Counts n counts reply_is on) =
+    absurd (false≢true (sym (ap finds reply_is) ∙ ap finds is))
+line-finds l left row child ending is (BreaksOff parks reply_is same) =
+    absurd (false≢true (sym (ap finds reply_is) ∙ ap finds is))
+
+-- and one that finds a child leaves what `waitpid` leaves
+pub lined-found : (k : Kernel) (name : Name) (l : Line) (left : Body) (m : MayMake k l.pid l.call)
+    (c : Lined k name l left) (child : ℕ) (ending : Ending) → name_for l.pid l.call ≡ Some name
+    → l.reply ≡ replies.Child child ending → LeavesFound k c.next l.pid child m.alive.row ending
+lined-found k name l left m c child ending named is =
+    let f = lined-finds k name l left m c child ending named is
+    in let own : body_in k (Proc l.pid) ≡ Living m.alive.row = living-body k l.pid m.alive m.lives
+    in let found = line-finds l left m.alive.row child ending is
+    (subst (λ (b : Body). DoesLine (Proc l.pid) b l left) own
+    (subst (λ (n : Name). DoesLine n (body_in k n) l left) f.own c.does))
+    in record {
+      own = own;
+      after = found.after;
+      is = ap (body_in c.next) (sym f.own) ∙ c.there ∙ found.is;
+      family = found.family;
+      over = f.ended;
+      gone = c.found (Proc child) (ap (λ (r : Reply). is_found r (Proc child)) is ∙ eq-eqb child child refl);
+      others = λ p apart away.
+          c.others (Proc p) (λ same. apart (proc-same p l.pid (same ∙ f.own)))
+          (ap (λ (r : Reply). is_found r (Proc p)) is ∙ ne_eqb child p (λ same. away (sym same)));
+    }
+
 -- ---- forks
 
 fork-parent : (r s : Row) (parent after : Body) (child q : ℕ) (body : Body) → parent ≡ Living r
@@ -372,12 +445,12 @@ kin-new k next pid child row f there =
 
 -- the parent's row once it has noted the end
 noted : Row → ℕ → Ending → Row
-noted row pid ending = let a : Alive = with_ended_child (free_to_act row) pid ending in a.row
+noted row pid ending = let a : Alive = with_ended_child (free_alive row) pid ending in a.row
 
 noted-family : (row : Row) (pid : ℕ) (ending : Ending)
     → (noted row pid ending).family ≡ family_after_end row.family pid ending (ignores_children row)
 unfolding noted
-noted-family row pid ending = family-ended_child (free_to_act row) pid ending
+noted-family row pid ending = family-ended_child (free_alive row) pid ending
 
 left-is : (row : Row) (pid : ℕ) (ending : Ending) → left_by (Living row) pid ending ≡ Living (noted row pid ending)
 unfolding noted
@@ -640,9 +713,6 @@ module _ (k next : Kernel) (pid parent : ℕ) (row : Row) (body : Body) (ending 
       ])
 
 -- ---- from what the entries leave
-
-proc-same : (a b : ℕ) → Proc a ≡ Proc b → a ≡ b
-proc-same a b h = cc
 
 -- a `waitpid` that found this child
 pub carried-found : (k : Kernel) (pid : ℕ) (call : Call) (name : Name) (m : MayMake k pid call)

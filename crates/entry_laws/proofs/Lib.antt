@@ -8,6 +8,7 @@ pub mod Replies
 pub mod Effects
 pub mod Served
 pub mod Holding
+pub mod Lined
 pub mod Fresh
 pub mod Keyed
 pub mod Families

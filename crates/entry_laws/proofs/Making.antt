@@ -12,13 +12,15 @@ use Rattle.number_maps.proofs.LookUps.{get-put-same, get-put-other}
 use Rattle.kernel_model.specs.Row.{Alive, Spent}
 use Rattle.kernel_model.specs.Kernel.{Kernel, living_at, with_alive}
 use Rattle.kernel_model.specs.Kernel as kernel
-use Rattle.kernel_model.specs.Effect.{Effect}
+use Rattle.kernel_model.specs.Effect.{Effect, reply_alone}
 use Rattle.kernel_model.specs.SetCalls.{set_size}
-use Rattle.kernel_model.specs.Transition.{effect, finish_call, outcome_of, transition_by}
+use Rattle.kernel_model.specs.Transition.{effect, finish_call, outcome_of, successor, transition, transition_by}
 use Rattle.kernel_model.specs.History.{number_in}
 use Rattle.kernel_model.specs.Footprint.{used_of}
 use Rattle.kernel_laws.proofs.People.{from-living}
+use Rattle.waiting_model.specs.Linear.{Does}
 use Rattle.node_model.specs.Bodies.{body_in, process_body}
+use Rattle.serve_laws.proofs.AtOnce.{at-once-steps, never-waits}
 use Rattle.entry_laws.specs.Entering.{MayMake, Makes, Enters, KeepsBodies, KeepsKeys, used_after}
 
 -- the kernel once the entry of a call with this kernel as its effect's is made
@@ -83,16 +85,26 @@ pub finished-is-like : (k : Kernel) (pid : ℕ) → IsLike k (finished k pid)
 finished-is-like k pid = finish-by k pid (living_at k pid) refl
 
 -- a call that may be made, and whose effect is known, is the kernel's step
+pub steps-by : (k : Kernel) (pid : ℕ) (call : Call) (e : Effect) (m : MayMake k pid call)
+    → effect k pid m.alive call (number_in (Some e.reply)) ≡ Some e
+    → transition k pid call (number_in (Some e.reply)) ≡ Some (successor (finished e.kernel pid) (reply_alone e.reply))
+steps-by k pid call e m gives =
+    let n : ℕ = number_in (Some e.reply)
+    in ap (transition_by k pid call n) m.lives
+    ∙ ap (λ (t : Bool). if t then outcome_of pid (effect k pid m.alive call n) else None) m.may
+    ∙ ap (outcome_of pid) gives
+
+-- a call that has an effect doesn't have to wait, and so it is what it is at once
 pub makes-by : (k : Kernel) (pid : ℕ) (call : Call) (e : Effect) (m : MayMake k pid call)
     → effect k pid m.alive call (number_in (Some e.reply)) ≡ Some e
     → Makes k pid call e.reply (finished e.kernel pid)
-makes-by k pid call e m gives =
-    let n : ℕ = number_in (Some e.reply)
-    in record {
-      step = ap (transition_by k pid call n) m.lives
-          ∙ ap (λ (t : Bool). if t then outcome_of pid (effect k pid m.alive call n) else None) m.may
-          ∙ ap (outcome_of pid) gives;
-    }
+makes-by k pid call e m gives = record {
+  leads = λ node.
+      Does
+      (at-once-steps k pid call (number_in (Some e.reply))
+      (never-waits k pid m.alive call (number_in (Some e.reply)) e gives)
+      ∙ steps-by k pid call e m gives);
+}
 
 -- an effect of a call that may be made is an entry
 pub enters-by : (k : Kernel) (pid : ℕ) (call : Call) (e : Effect) (made : Option Name) (m : MayMake k pid call)

@@ -1,15 +1,11 @@
 -- Names that are one or two, and what a map from names has after changes.
-use Rattle.std.proofs.Common.{◌≡◌, ◌≢◌, ◌⊎◌, Bool, true, false, ◌||◌, List, [], ◌∷◌, ◌++◌, Some, refl, ap, sym, subst, ◌∙◌, inl, inr}
+use Rattle.std.proofs.Common.{◌≡◌, ◌≢◌, ◌⊎◌, Bool, true, false, List, Some, refl, ap, sym, subst, ◌∙◌, inl, inr}
 use Rattle.std.specs.List.{list_any}
 use Rattle.std.proofs.lemmas.Bool.{cases_Bool, eq-eqb, eqb-true, false≢true}
-use Rattle.std.proofs.lemmas.List.Sums.{fold-append}
 use Rattle.pico_base.specs.declared.numbers.Name.{Name}
 use Rattle.pico_base.specs.declared.numbers.Name.TheVariants.{Proc, Msg, Sem}
 use Rattle.number_maps.proofs.LookUps.{get-put-same, get-put-other}
-use Rattle.kernel_model.specs.Kernel.{Kernel}
-use Rattle.node_model.specs.Kinds.{Named, is_same_name, get_named, put_named, put_pair, put_all}
-use Rattle.node_model.specs.Bodies.{Deeds, body_in}
-use Rattle.node_model.specs.Serving.{parts_in}
+use Rattle.node_model.specs.Kinds.{Named, is_same_name, get_named, put_named}
 
 -- ---- names
 
@@ -35,6 +31,7 @@ pub other-name-is : (a b : Name) → is_same_name a b ≡ false → b ≢ a
 other-name-is a b h e =
     false≢true (sym h ∙ subst (λ (c : Name). is_same_name a c ≡ true) (sym e) (same-name a))
 
+-- names that differ are told apart by the test
 pub other-name : (a b : Name) → b ≢ a → is_same_name a b ≡ false
 other-name a b d = by (is_same_name a b) refl
   where

@@ -9,6 +9,7 @@ use Rattle.pico_base.specs.declared.call.Call.TheVariants as calls
 use Rattle.pico_base.specs.declared.reply.Ending.{Ending}
 use Rattle.pico_base.specs.declared.reply.Outcome.{Outcome}
 use Rattle.pico_base.specs.declared.reply.Reply.{Reply}
+use Rattle.pico_base.specs.declared.reply.Reply.TheVariants as replies
 use Rattle.pico_base.specs.declared.signal.Sig.{Sig}
 use Rattle.pico_base.specs.declared.signal.Sig.TheVariants.{Chld}
 use Rattle.number_maps.specs.Maps.{Numbered, get, put, is_used}
@@ -22,6 +23,7 @@ use Rattle.kernel_model.specs.ProcessCalls.{bury, bury_all, end_under, process_a
 use Rattle.kernel_model.specs.Transition.{successor, transition, may_make, is_spent, is_doomed_by}
 use Rattle.kernel_model.specs.History.{number_in}
 use Rattle.kernel_model.specs.Valid.{IsValid}
+use Rattle.waiting_model.specs.Linear.{LeadsTo, Does, Counts, BreaksOff, at_once, line_of}
 use Rattle.kernel_laws.specs.Processes.{NoneListsItself}
 use Rattle.kernel_laws.proofs.EndChanges.{parent-is}
 use Rattle.kernel_laws.proofs.EntryLaws.{entries_keep_validity_lemma}
@@ -248,17 +250,41 @@ module _ (k : Kernel) (valid : IsValid k) (pid p : ℕ) (apart : p ≢ pid) wher
       subst (λ (o : Option Process). TurnsTo (get ps p) o)
       (sym (get-put-other j.processes pid (kernel.Living (record a { allowance = Spent })) p apart)) h)
 
--- each entry keeps the kernel valid, and the others as free as they were
-pub goes : (k : Kernel) (pid : ℕ) (call : Call) (reply : Reply) (next : Kernel) → IsValid k → NoneListsItself k
-    → Makes k pid call reply next → LeavesOthers k pid next
-goes k pid call reply next valid alone makes =
-    let n : ℕ = number_in (Some reply)
-    in let kept = entries_keep_validity_lemma k next pid call n (reply_alone reply) valid alone makes.step
+-- the kernel's own step does
+stepped : (k : Kernel) (pid : ℕ) (call : Call) (n : ℕ) (next : Kernel) (outcome : Outcome) → IsValid k
+    → NoneListsItself k → transition k pid call n ≡ Some (successor next outcome) → LeavesOthers k pid next
+stepped k pid call n next outcome valid alone step =
+    let kept = entries_keep_validity_lemma k next pid call n outcome valid alone step
     in record {
       valid = kept.0;
       alone = kept.1;
-      others = λ p apart. turned k valid pid p apart call n next (reply_alone reply) makes.step;
+      others = λ p apart. turned k valid pid p apart call n next outcome step;
     }
+
+-- where nothing is done all are as they were
+turns-to-itself : (o : Option Process) → TurnsTo o o
+turns-to-itself None = tt
+turns-to-itself (Some (kernel.Living a)) = (a, refl, as-free-itself a)
+turns-to-itself (Some (kernel.Ended ending)) = inl refl
+turns-to-itself (Some kernel.Gone) = refl
+
+stayed : (k : Kernel) (pid : ℕ) (next : Kernel) → IsValid k → NoneListsItself k → next ≡ k → LeavesOthers k pid next
+stayed k pid next valid alone same =
+    subst (LeavesOthers k pid) (sym same)
+    (record { valid = valid; alone = alone; others = λ p apart. turns-to-itself (get k.processes p) })
+
+led-on : (k : Kernel) (pid : ℕ) (call : Call) (reply : Reply) (next : Kernel) → IsValid k → NoneListsItself k
+    → LeadsTo k (line_of 0 pid call reply) next → LeavesOthers k pid next
+led-on k pid call reply next valid alone (Does step) =
+    stepped k pid (at_once call) (number_in (Some reply)) next (reply_alone reply) valid alone step
+led-on k pid call reply next valid alone (Counts n counts is step) =
+    stepped k pid call 0 next (reply_alone (replies.Num 0)) valid alone step
+led-on k pid call reply next valid alone (BreaksOff error parks broken is same) = stayed k pid next valid alone same
+
+-- each entry keeps the kernel valid, and the others as free as they were
+pub goes : (k : Kernel) (pid : ℕ) (call : Call) (reply : Reply) (next : Kernel) → IsValid k → NoneListsItself k
+    → Makes k pid call reply next → LeavesOthers k pid next
+goes k pid call reply next valid alone makes = led-on k pid call reply next valid alone (makes.leads 0)
 
 -- ---- the same in words of the invariant
 

@@ -1,6 +1,6 @@
 -- Where a process is in its block: a reply moves the node's place as it moves the history's, a call that ends a
 -- process is its last one and any other isn't, and the call that is due may be made.
-use Rattle.std.proofs.Common.{◌≡◌, ◌⊎◌, ℕ, zero, suc, ◌+◌, Bool, true, false, not, ◌&&◌, nat_lt, List, [], ◌∷◌, drop, Option, Some, None, refl, ap, sym, subst, ◌∙◌, inl, inr, arith}
+use Rattle.std.proofs.Common.{◌≡◌, ◌⊎◌, ℕ, zero, suc, ◌+◌, Bool, true, false, not, ◌&&◌, nat_lt, List, [], ◌∷◌, drop, Option, Some, None, refl, ap, sym, subst, ◌∙◌, inl, inr}
 use Rattle.std.specs.Prelude.{if◌then◌else◌, is_some, slice_get}
 use Rattle.std.specs.List.{list_all, list_any}
 use Rattle.std.proofs.lemmas.Bool.{eq-eqb, false≢true, or_right}
@@ -16,12 +16,12 @@ use Rattle.pico_base.specs.Signal.{signal_number}
 use Rattle.kernel_model.specs.Row.{Alive, Free}
 use Rattle.kernel_model.specs.Kernel.{Kernel, living_at}
 use Rattle.kernel_model.specs.Valid.{IsValid}
-use Rattle.kernel_model.specs.Waiting.{is_waiting}
 use Rattle.kernel_model.specs.Transition.{is_spent, is_doomed_by, may_make}
 use Rattle.kernel_model.specs.Numbers.{is_between}
 use Rattle.kernel_model.specs.Script.{IsSoundScript, Vars, call_from, call_of, can_name, implied_exit, is_exit, is_in_range, is_line, is_process_in_range, is_tried_once, is_variable, max_calls, sets_rightly, value_of, with_exit, with_target}
-use Rattle.kernel_model.specs.Fitting.{IsDue, Place, call_due, after_line, after_reply, asks_again, block_at, due, is_killed, move_on, place_after, set_variable, value_in}
-use Rattle.node_model.specs.Caller.{Caller, answer_at, answer_call, caller_place, due_call, end_call, lines_in, lines_of}
+use Rattle.kernel_model.specs.Fitting.{IsDue, Place, call_due, after_reply, asks_again, block_at, due, is_killed, move_on, place_after, set_variable, value_in}
+use Rattle.waiting_model.specs.Calls.{is_withdrawal}
+use Rattle.node_model.specs.Caller.{Caller, caller_place, due_call, lines_in}
 
 -- ---- a reply moves the place
 
@@ -149,10 +149,6 @@ killed-target : (call : Call) (n : ℕ) → is_killed (with_target call n) ≡ i
 killed-target (calls.Fork block) n = refl
 killed-target call n = refl
 
-waiting-target : (call : Call) (n : ℕ) → is_waiting (with_target call n) ≡ is_waiting call
-waiting-target (calls.Fork block) n = refl
-waiting-target call n = refl
-
 pub exit-of : (call : Call) (vars : Vars) (o : Option ℕ) → is_exit (call_from call vars o) ≡ is_exit call
 exit-of call vars None = refl
 exit-of call vars (Some v) = exit-target call (value_of vars v)
@@ -160,11 +156,6 @@ exit-of call vars (Some v) = exit-target call (value_of vars v)
 pub killed-of : (call : Call) (vars : Vars) (o : Option ℕ) → is_killed (call_from call vars o) ≡ is_killed call
 killed-of call vars None = refl
 killed-of call vars (Some v) = killed-target call (value_of vars v)
-
--- a variable doesn't make a call wait
-pub waiting-of : (call : Call) (vars : Vars) (o : Option ℕ) → is_waiting (call_from call vars o) ≡ is_waiting call
-waiting-of call vars None = refl
-waiting-of call vars (Some v) = waiting-target call (value_of vars v)
 
 fork-target : (call : Call) (n block : ℕ) → with_target call n ≡ calls.Fork block → call ≡ calls.Fork block
 fork-target (calls.Fork b) n block h = h
@@ -349,10 +340,24 @@ line-in-range line h =
     (and-second (is_tried_once line) (sets_rightly line && ranged)
     (and-second (is_between 1 max_calls line.tries) (is_tried_once line && (sets_rightly line && ranged)) h)))
 
--- the call due in a block is no end by a signal, and in no form that may wait
+in-range-not-withdrawal : (call : Call) → is_in_range call ≡ true → is_withdrawal call ≡ false
+in-range-not-withdrawal (calls.Withdraw name) h = absurd (false≢true h)
+in-range-not-withdrawal call h = refl
+
+withdrawal-target : (call : Call) (n : ℕ) → is_withdrawal (with_target call n) ≡ is_withdrawal call
+withdrawal-target (calls.Kill pid sig) n = refl
+withdrawal-target (calls.WaitPid child nohang) n = refl
+withdrawal-target call n = refl
+
+-- a variable doesn't make a call a withdrawal
+withdrawal-of : (call : Call) (vars : Vars) (o : Option ℕ) → is_withdrawal (call_from call vars o) ≡ is_withdrawal call
+withdrawal-of call vars None = refl
+withdrawal-of call vars (Some v) = withdrawal-target call (value_of vars v)
+
+-- the call due in a block is no end by a signal, and no withdrawal
 pub record IsFineCall (call : Call) : Type 0 where
   pub not_killed : is_killed call ≡ false
-  pub not_waiting : is_waiting call ≡ false
+  pub not_withdrawal : is_withdrawal call ≡ false
 
 -- a call that is due in a sound script is within the ranges of its types
 pub due-is-fine : (script : Script) (p : ℕ) (c : Caller) (call : Call) → IsSoundScript script
@@ -361,14 +366,11 @@ due-is-fine script p c call sound h =
     let place : Place = caller_place script p c
     in let d = due-line place call h
     in let lines = all-in is_line script (block_at script p) p c.line d.line d.rest refl refl sound.lines d.left
-    in let at_once =
-    all-in (λ (l : Line). not (is_waiting l.call)) script (block_at script p) p c.line d.line d.rest refl refl
-    sound.at_once d.left
     in record {
       not_killed = ap is_killed (sym d.call_is) ∙ killed-of d.line.call place.vars d.line.from
           ∙ in-range-not-killed d.line.call (line-in-range d.line lines);
-      not_waiting = ap is_waiting (sym d.call_is) ∙ waiting-of d.line.call place.vars d.line.from
-          ∙ not-true (is_waiting d.line.call) at_once;
+      not_withdrawal = ap is_withdrawal (sym d.call_is) ∙ withdrawal-of d.line.call place.vars d.line.from
+          ∙ in-range-not-withdrawal d.line.call (line-in-range d.line lines);
     }
 
 -- ---- who may make it
@@ -382,7 +384,7 @@ may-unspent a call h unspent = ap not unspent
 pub record IsDueNow (place : Place) (a : Alive) (call : Call) : Type 0 where
   pub due : IsDue place call
   pub may : may_make a call ≡ true
-  pub not_waiting : is_waiting call ≡ false
+  pub not_withdrawal : is_withdrawal call ≡ false
 
 due-now-by : (k : Kernel) (pid : ℕ) (a : Alive) (script : Script) (p : ℕ) (c : Caller) (call : Call) (o : Option Sig)
     → IsValid k → living_at k pid ≡ Some a → IsSoundScript script → ((caller_place script p c).left ≡ [] → ⊥)
@@ -393,7 +395,7 @@ due-now-by k pid a script p c call None valid lives sound more calm h =
     in record {
       due = inl h;
       may = may-unspent a call fine.not_killed (ap is_spent free);
-      not_waiting = fine.not_waiting;
+      not_withdrawal = fine.not_withdrawal;
     }
 due-now-by k pid a script p c call (Some g) valid lives sound more doomed h =
     let is : calls.Killed g ≡ call = some-is (calls.Killed g) call h
@@ -401,7 +403,7 @@ due-now-by k pid a script p c call (Some g) valid lives sound more doomed h =
     in let may : is_doomed_by a.row.signals.doom g ≡ true =
     ap (λ (d : Option Sig). is_doomed_by d g) doomed ∙ eq-eqb (signal_number g) (signal_number g) refl
     in subst (λ (x : Call). IsDueNow (caller_place script p c) a x) is
-    (record { due = inr (refl, other.0, other.1); may = may; not_waiting = refl })
+    (record { due = inr (refl, other.0, other.1); may = may; not_withdrawal = refl })
 
 -- The call that a node starts is due in the history, and its process may make it.
 pub due-now : (k : Kernel) (pid : ℕ) (a : Alive) (script : Script) (p : ℕ) (c : Caller) (call : Call) → IsValid k

@@ -1,6 +1,6 @@
 -- A call is served on the body of its name, as the kernel's transition does it: what the kernel has afterwards, and
 -- what the node that serves it holds.
-use Rattle.std.proofs.Common.{◌≡◌, ◌≢◌, ◌⊎◌, ℕ, Bool, true, false, not, Option, Some, None, refl, ap, sym, subst, ◌∙◌, inl, inr, nat_eq}
+use Rattle.std.proofs.Common.{◌≡◌, ◌≢◌, ◌⊎◌, ℕ, Bool, true, false, Option, Some, None, refl, ap, sym, subst, ◌∙◌, inl, inr, nat_eq}
 use Rattle.std.specs.Prelude.{if◌then◌else◌, is_some, Contains}
 use Rattle.std.specs.Option.{option_and_then}
 use Rattle.std.proofs.lemmas.Bool.{cases_eq, eq-eqb, ne_eqb, false≢true}
@@ -17,36 +17,37 @@ use Rattle.number_maps.specs.Maps.{Numbered, get}
 use Rattle.number_maps.specs.Rising.{IsRising}
 use Rattle.kernel_model.specs.Queue.{Queue}
 use Rattle.kernel_model.specs.SemaphoreSet.{SemaphoreSet}
-use Rattle.kernel_model.specs.Row.{Alive, Row, ended_child}
+use Rattle.kernel_model.specs.Row.{Alive, ended_child}
 use Rattle.kernel_model.specs.Kernel.{Kernel}
 use Rattle.kernel_model.specs.Kernel as kernel
 use Rattle.kernel_model.specs.Effect.{Effect, on_named, reply_alone}
 use Rattle.kernel_model.specs.QueueCalls.{remove_queue}
 use Rattle.kernel_model.specs.SetCalls.{remove_set, set_size}
-use Rattle.kernel_model.specs.Transition.{effect}
+use Rattle.kernel_model.specs.Transition.{effect, successor, transition}
 use Rattle.kernel_model.specs.History.{number_in}
-use Rattle.kernel_model.specs.Fitting.{is_waitpid}
 use Rattle.kernel_model.specs.Valid.{AreKeys, IsValid}
+use Rattle.waiting_model.specs.Waiters.{unawaited}
 use Rattle.node_model.specs.Kinds.{number_of}
 use Rattle.node_model.specs.Bodies.{Body, Living, Ended, Gone, AQueue, ASet, Removed, body_in}
 use Rattle.node_model.specs.Serving.{name_for}
 use Rattle.node_model.specs.Carrying.{done, in_body, is_removal, is_served, on_body, on_row, on_set}
 use Rattle.serve_laws.specs.Laws.{Follows, is_found}
 use Rattle.serve_laws.proofs.Steps.{served-calls}
-use Rattle.entry_laws.specs.Entering.{MayMake, Enters, HasFamily, HasKeys, family_after, other_than, removed_queue, removed_set, unless_removed, without_keys_of}
+use Rattle.entry_laws.specs.Entering.{MayMake, Enters, HasKeys, other_than, removed_queue, removed_set, unless_removed, without_keys_of}
 use Rattle.entry_laws.proofs.Bodies.{living-body, body-living}
-use Rattle.entry_laws.proofs.Making.{finished, finished-is-like, enters-by}
+use Rattle.entry_laws.proofs.Making.{finished, finished-is-like, enters-by, steps-by}
 use Rattle.entry_laws.proofs.Effects.{Gives, Leaves, gives, effect-any}
 use Rattle.entry_laws.proofs.Keys.{get-unbound, keys-unbound, size-by-body, size-same, size_in}
 use Rattle.entry_laws.proofs.Names.{name-cases}
 use Rattle.entry_laws.proofs.Others.{Lived}
-use Rattle.entry_laws.proofs.Replies.{body-none, finds, none-found, on_set-size, row-family, row-found, set-not-found}
+use Rattle.entry_laws.proofs.Replies.{body-none, finds, on_set-size, row-found, set-not-found}
 
 -- The kernel makes the call, and leaves on its name what the call leaves on the name's body; a child that was found is
 -- gone, and all else stays.
 pub record Carried (k : Kernel) (pid : ℕ) (call : Call) (name : Name) : Type 0 where
   pub reply : Reply
   pub next : Kernel
+  pub step : transition k pid call (number_in (Some reply)) ≡ Some (successor next (reply_alone reply))
   pub enters : Enters k pid call reply None next
   pub follows : Follows k name (on_body name (body_in k name) pid call) next reply
   -- no key leads to what it removes, and the others stay
@@ -139,15 +140,16 @@ carried k pid call name m served named =
     in let e : Effect = g.result
     in let like = finished-is-like e.kernel pid
     in let next : Kernel = finished e.kernel pid
-    in let enters : Enters k pid call e.reply None next =
-    enters-by k pid call e None m (effect-any k pid m.alive call (number_in (Some e.reply)) 0 served ∙ g.gives)
-    g.leaves.used
+    in let made = effect-any k pid m.alive call (number_in (Some e.reply)) 0 served ∙ g.gives
+    in let step = steps-by k pid call e m made
+    in let enters : Enters k pid call e.reply None next = enters-by k pid call e None m made g.leaves.used
     in let w = served-calls k pid (number_in (Some e.reply)) call name next (reply_alone e.reply) m.valid served named
-    enters.makes.step
+    step
     in let answer : e.reply ≡ w.answer = some-is e.reply w.answer (ap (λ (o : Outcome). o.own) w.alone)
     in record {
       reply = e.reply;
       next = next;
+      step = step;
       enters = enters;
       follows = subst (λ (r : Reply). Follows k name (on_body name (body_in k name) pid call) next r) (sym answer)
           w.follows;
@@ -171,8 +173,10 @@ set-size-after : (name : Name) (id : ℕ) (body : Body) (pid : ℕ) (call : Call
     → size_in (on_body (Sem id) body pid call).left ≡ size_in body
 unfolding size_in
 set-size-after name id (ASet s) pid call h =
-    ap (λ (t : Bool). size_in (if t then done Removed (replies.Num 0) else in_body ASet (on_set s pid call)).left) h
-    ∙ on_set-size s pid call
+    ap (λ (t : Bool).
+    size_in (if t then done Removed (replies.Num 0) else in_body (λ (x : SemaphoreSet). ASet (unawaited x))
+    (on_set s.state pid call)).left) h
+    ∙ on_set-size s.state pid call
 set-size-after name id (Living row) pid call h = refl
 set-size-after name id (Ended e) pid call h = refl
 set-size-after name id Gone pid call h = refl
@@ -234,7 +238,8 @@ pub record FindsChild (k : Kernel) (pid : ℕ) (name : Name) (a : Alive) (child 
   pub kept : Contains a.row.family.ended (ended_child child ending)
   pub ended : get k.processes child ≡ Some (kernel.Ended ending)
 
-found-by : (k : Kernel) (pid : ℕ) (call : Call) (name : Name) (m : MayMake k pid call) (r : Reply) (child : ℕ)
+-- a reply with a child comes from the caller's own row, which keeps that end, and the child has ended so
+pub found-by : (k : Kernel) (pid : ℕ) (call : Call) (name : Name) (m : MayMake k pid call) (r : Reply) (child : ℕ)
     (ending : Ending) → name_for pid call ≡ Some name → r ≡ replies.Child child ending
     → r ≡ (on_body name (body_in k name) pid call).reply → FindsChild k pid name m.alive child ending
 found-by k pid (calls.WaitPid which nohang) name m r child ending named is does =

@@ -1,5 +1,5 @@
--- What an entry of the history comes to: a call of a process is the kernel's transition, with this reply, and what that
--- leaves of bodies, of used numbers, of keys, and of what other processes may do.
+-- What an entry in line comes to: a call of a process leads to the next kernel, with this reply, and what that leaves
+-- of bodies, of used numbers, of keys, and of what other processes may do.
 use Rattle.std.specs.Prelude.{◌≡◌, ◌≢◌, ◌⊎◌, ℕ, Bool, true, false, List, nat_eq, if◌then◌else◌, Option, Some, None, Contains}
 use Rattle.std.specs.Option.{option_map, option_and_then}
 use Rattle.pico_base.specs.declared.call.Call.{Call}
@@ -19,14 +19,13 @@ use Rattle.number_maps.specs.Rising.{IsRising}
 use Rattle.kernel_model.specs.Row.{Alive, Family, Row, ended_child, lists, without_ended}
 use Rattle.kernel_model.specs.Kernel.{Kernel, Process, living_at, opening}
 use Rattle.kernel_model.specs.Kernel as kernel
-use Rattle.kernel_model.specs.Effect.{reply_alone}
 use Rattle.kernel_model.specs.SetCalls.{set_size}
-use Rattle.kernel_model.specs.Transition.{successor, transition, may_make, is_spent, is_doomed_by}
-use Rattle.kernel_model.specs.History.{Replays, number_in}
+use Rattle.kernel_model.specs.Transition.{may_make, is_spent, is_doomed_by}
 use Rattle.kernel_model.specs.Fitting.{Places, FitsFrom, opening_places}
 use Rattle.kernel_model.specs.Footprint.{used_of, grown_by}
 use Rattle.kernel_model.specs.Valid.{IsValid, ListsEnded}
 use Rattle.kernel_laws.specs.Processes.{NoneListsItself}
+use Rattle.waiting_model.specs.Linear.{LeadInLine, LeadsTo, line_of}
 use Rattle.node_model.specs.Kinds.{kind_of, number_of, is_same_kind}
 use Rattle.node_model.specs.Bodies.{Body, Living, Ended, Gone, body_in}
 
@@ -42,16 +41,17 @@ pub record MayMake (k : Kernel) (pid : ℕ) (call : Call) : Type 0 where
 
 -- ---- the entry
 
--- the kernel's transition for this process's call has this reply, and leads to the next kernel
+-- This process's call has this reply, and leads to the next kernel, whichever node carries it out: it does what it does
+-- at once, it counts those who wait, or its wait is broken off.
 pub record Makes (k : Kernel) (pid : ℕ) (call : Call) (reply : Reply) (next : Kernel) : Type 0 where
-  pub step : transition k pid call (number_in (Some reply)) ≡ Some (successor next (reply_alone reply))
+  pub leads : (node : ℕ) → LeadsTo k (line_of node pid call reply) next
 
 -- the used numbers of a kind once a name was made, or none
 abbrev pub used_after : Option Name → Kind → List ℕ → List ℕ
 used_after None kind used = used
 used_after (Some name) kind used = grown_by (is_same_kind (kind_of name) kind) used (number_of name)
 
--- the entry is the kernel's, and the numbers used are those before it, with the one of what it made
+-- the entry leads on, and the numbers used are those before it, with the one of what it made
 pub record Enters (k : Kernel) (pid : ℕ) (call : Call) (reply : Reply) (made : Option Name)
     (next : Kernel) : Type 0 where
   pub makes : Makes k pid call reply next
@@ -180,8 +180,8 @@ pub data SameKind (before after : Body) : Type 0 where
 
 -- ---- the history
 
--- the journal is legal and leads to the kernel, and it fits the script so far
-pub record HasHistory (script : Script) (journal : List Entry) (k : Kernel) (places : Places) : Type 0 where
-  pub legal : Replays opening journal k
-  pub fits : FitsFrom script (opening_places script) journal places
+-- the lines lead to the kernel, and they fit the script so far
+pub record HasHistory (script : Script) (lines : List Entry) (k : Kernel) (places : Places) : Type 0 where
+  pub legal : LeadInLine opening lines k
+  pub fits : FitsFrom script (opening_places script) lines places
   pub ordered : IsRising places

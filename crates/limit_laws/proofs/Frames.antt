@@ -1,21 +1,26 @@
 -- Frames about calls, numbers and names that are within the limits.
-use Rattle.std.proofs.Common.{◌≡◌, ℕ, true, refl, ◌≤◌, length, nat_lt, arith}
-use Rattle.std.proofs.lemmas.Bool.{and_from, and_parts, leb-true}
+use Rattle.std.proofs.Common.{◌≡◌, ℕ, true, Some, refl, ◌≤◌, length, nat_lt, arith, subst, sym}
+use Rattle.std.proofs.lemmas.Bool.{and_from, and_parts, false≢true, leb-true}
 use Rattle.std.specs.List.{list_all}
+use Rattle.frame_bytes.specs.Calls.{is_object}
 use Rattle.frame_bytes.specs.Frames.{are_processes, frame_body, max_frame}
-use Rattle.frame_bytes.specs.Limits.{is_frame, is_reply, is_last_call, is_deed, is_call, has_fields, are_deeds, is_nonzero}
+use Rattle.frame_bytes.specs.Limits.{is_frame, is_reply, is_last_call, is_deed, is_call, is_withdrawal, has_fields, are_deeds, is_nonzero}
 use Rattle.limit_laws.proofs.Calls.{IsSpellable, call-is-within, call-is-short}
 use Rattle.limit_laws.proofs.Lengths.{name-is-nonzero}
 use Rattle.limit_laws.proofs.Plain.{some-nonzero, fields-are-frame}
-use Rattle.limit_laws.specs.Within.{IsReplyShort}
+use Rattle.limit_laws.specs.Within.{CanGoOn, IsItemWithin, IsReplyShort}
 use Rattle.node_model.specs.Kinds.{number_of}
+use Rattle.node_model.specs.declared.held.Held.TheVariants.{Request}
 use Rattle.pico_base.specs.Home.{home_of}
+use Rattle.pico_base.specs.declared.call.Call.TheVariants as calls
+use Rattle.pico_base.specs.declared.call.Call.{Call}
 use Rattle.pico_base.specs.declared.numbers.Kind.{Kind}
 use Rattle.pico_base.specs.declared.numbers.Name.{Name}
 use Rattle.pico_base.specs.declared.reply.Reply.{Reply}
 use Rattle.rpc_frame.specs.declared.asked.Asked.{Asked}
 use Rattle.rpc_frame.specs.declared.deed.Parcel.{Parcel}
 use Rattle.rpc_frame.specs.declared.frame.Frame.TheVariants as frames
+use Rattle.waiting_model.specs.Calls.{withdrawn_from}
 use Rattle.world_model.specs.Calls.{is_for_others}
 
 -- ---- a call that others carry out
@@ -25,6 +30,16 @@ pub forwarded-has-ticket : (asked : Asked) → is_frame (frames.Forward asked) �
 forwarded-has-ticket asked h =
     (and_parts (is_nonzero asked.ticket) (is_call asked.call)
     (and_parts (has_fields (frames.Forward asked)) _ h).0).0
+
+-- can be held,
+pub forwarded-is-held : (asked : Asked) → is_frame (frames.Forward asked) ≡ true → IsItemWithin (Request asked)
+forwarded-is-held asked h = by asked.call (and_parts (is_nonzero asked.ticket) (is_call asked.call)
+    (and_parts (has_fields (frames.Forward asked)) _ h).0).1 h
+  where
+    by : (call : Call) → is_call call ≡ true → is_frame (frames.Forward asked) ≡ true
+        → CanGoOn asked (withdrawn_from call)
+    by (calls.Withdraw name) fits can = absurd (false≢true fits)
+    by call fits can = can
 
 -- can be sent back,
 pub forwarded-is-bounced : (asked : Asked) → is_frame (frames.Forward asked) ≡ true
@@ -60,6 +75,28 @@ spellable-is-forwarded asked low spellable others =
     in fields-are-frame (frames.Forward asked)
     (and_from (is_nonzero asked.ticket) (is_call asked.call) (some-nonzero asked.ticket low)
     (call-is-within asked.pid asked.call spellable others)) (omega (arith, short))
+
+-- ---- the end of a wait
+
+-- it has a ticket that isn't 0,
+pub cancelled-has-ticket : (asked : Asked) → is_frame (frames.Cancel asked) ≡ true → is_nonzero asked.ticket ≡ true
+cancelled-has-ticket asked h =
+    (and_parts (is_nonzero asked.ticket) (is_withdrawal asked.call)
+    (and_parts (has_fields (frames.Cancel asked)) _ h).0).0
+
+-- and can be held.
+pub cancelled-is-held : (asked : Asked) (name : Name) → withdrawn_from asked.call ≡ Some name
+    → is_frame (frames.Cancel asked) ≡ true → IsItemWithin (Request asked)
+cancelled-is-held asked name is h = subst (CanGoOn asked) (sym is) h
+
+-- A call that waits at a queue or a set can be withdrawn.
+pub withdrawal-is-frame : (caller ticket pid : ℕ) (name : Name) → 1 ≤ ticket → is_object name ≡ true
+    → is_frame
+    (frames.Cancel (record { caller = caller; ticket = ticket; pid = pid; call = calls.Withdraw name })) ≡ true
+withdrawal-is-frame caller ticket pid name low object =
+    fields-are-frame
+    (frames.Cancel (record { caller = caller; ticket = ticket; pid = pid; call = calls.Withdraw name }))
+    (and_from (is_nonzero ticket) (is_object name) (some-nonzero ticket low) object) (omega arith)
 
 -- ---- replies
 

@@ -6,13 +6,13 @@ use Rattle.std.proofs.lemmas.List.Sums.{sum_by-cons}
 use Rattle.std.specs.Int.{w32, to_be_bytes}
 use Rattle.std.specs.List.{AllByRecursion, flat_map, list_all}
 use Rattle.std.specs.Prelude.{sum_by, nat_le}
+use Rattle.sysv_msg.specs.Body.{message_field, messages_field}
+use Rattle.sysv_sem.specs.Body.{semaphore_field}
 use Rattle.fork_wait.specs.Spelling.{family_bytes, ending_bytes, ended_bytes}
 use Rattle.frame_bytes.specs.Calls.{call_bytes}
 use Rattle.frame_bytes.specs.Fields.{name_number, rise_from}
 use Rattle.frame_bytes.specs.Frames.{are_processes, deed_field, value_field, vars_field, deeds_field, process_of}
 use Rattle.frame_bytes.specs.Limits.{is_frame, are_vars, is_last_call, is_deed, is_nonzero}
-use Rattle.kernel_laws.specs.Queues.{IsQueueWithinLimits}
-use Rattle.kernel_laws.specs.Sets.{IsSetWithinLimits}
 use Rattle.kernel_model.specs.Queue.{Queue, Message}
 use Rattle.kernel_model.specs.Row.{Family, Row, child_row}
 use Rattle.kernel_model.specs.Script.{Vars}
@@ -22,7 +22,7 @@ use Rattle.limit_laws.proofs.Plain.{fields-length, some-nonzero, fields-are-fram
 use Rattle.limit_laws.proofs.Rises.{AreFrom, above-from}
 use Rattle.limit_laws.proofs.Served.{no-family-within}
 use Rattle.limit_laws.proofs.Vars.{vars-are-few, vars-are-within}
-use Rattle.limit_laws.specs.Bodies.{IsFamilyWithin}
+use Rattle.limit_laws.specs.Bodies.{AreWaitersWithin, IsFamilyWithin, IsQueueWithin, IsSetWithin, IsWaiterWithin}
 use Rattle.limit_laws.specs.Within.{AreVariables, IsDeedWithin, AreDeedsWithin, IsBodyWithin}
 use Rattle.node_model.specs.Bodies.{Body, Deeds, Living, Ended, Gone, AQueue, ASet, Removed}
 use Rattle.node_model.specs.Kinds.{number_of}
@@ -41,8 +41,9 @@ use Rattle.pico_base.specs.declared.reply.Ending.TheVariants.{Exited, Killed}
 use Rattle.pico_base.specs.declared.reply.Ending.{Ending}
 use Rattle.rpc_frame.specs.declared.frame.Frame.TheVariants as frames
 use Rattle.signal_state.specs.Spelling.{signal_bytes}
-use Rattle.sysv_msg.specs.Body.{message_field}
-use Rattle.sysv_sem.specs.Body.{semaphore_field}
+use Rattle.waiter_fields.specs.Waiters.{waiter_field, waiters_field}
+use Rattle.waiting_model.specs.Waiters.{Awaited}
+use Rattle.waiting_model.specs.declared.callers.Waiting.{Waiting}
 use Rattle.world_model.specs.Lives.{is_end}
 
 -- ---- a process
@@ -98,28 +99,50 @@ messages-length (m ∷ ms) =
     in let texts = sum_by-cons (λ (x : Message). length x.text) m ms
     in omega (arith, rest, whole, texts)
 
-queue-is-short : (q : Queue) → IsQueueWithinLimits q → length (body_bytes (AQueue q)) ≤ 24591
-unfolding body_bytes
-queue-is-short q l =
-    let bytes = l.bytes
-    in let count = l.count
-    in let texts = messages-length q.messages
-    in omega (arith, bytes, count, texts)
+waiters-are-short : (ws : List Waiting) → AllByRecursion IsWaiterWithin ws
+    → length (flat_map waiter_field ws) ≤ 4119 * length ws
+waiters-are-short [] all = omega arith
+waiters-are-short (w ∷ ws) all =
+    let rest = waiters-are-short ws all.1
+    in let first : IsWaiterWithin w = all.0
+    in let short = first.short
+    in let whole = length-append (waiter_field w) (flat_map waiter_field ws)
+    in omega (arith, rest, short, whole)
 
-set-is-short : (s : SemaphoreSet) → IsSetWithinLimits s → length (body_bytes (ASet s)) ≤ 24591
-unfolding body_bytes
-set-is-short s l =
-    let most = l.most
-    in let each = fields-length semaphore_field 6 s.semaphores (λ _. refl)
-    in omega (arith, most, each)
+-- those who wait at one queue or set have at most 131,809 bytes with their count
+waiters-field-is-short : (ws : List Waiting) → AreWaitersWithin ws → length (waiters_field ws) ≤ 131809
+waiters-field-is-short ws k =
+    let few = k.few
+    in let short = waiters-are-short ws k.each
+    in omega (arith, few, short)
 
-removed-is-short : length (body_bytes Removed) ≤ 24591
+queue-is-short : (q : Awaited Queue) → IsQueueWithin q → length (body_bytes (AQueue q)) ≤ 156400
+unfolding body_bytes
+queue-is-short q h =
+    let bytes = h.state.bytes
+    in let count = h.state.count
+    in let texts = messages-length q.state.messages
+    in let waiting = waiters-field-is-short q.waiters h.waiters
+    in let whole = length-append (messages_field q.state.messages) (waiters_field q.waiters)
+    in omega (arith, bytes, count, texts, waiting, whole)
+
+set-is-short : (s : Awaited SemaphoreSet) → IsSetWithin s → length (body_bytes (ASet s)) ≤ 156400
+unfolding body_bytes
+set-is-short s h =
+    let most = h.state.most
+    in let each = fields-length semaphore_field 6 s.state.semaphores (λ _. refl)
+    in let waiting = waiters-field-is-short s.waiters h.waiters
+    in let whole = length-append (flat_map semaphore_field s.state.semaphores) (waiters_field s.waiters)
+    in omega (arith, most, each, waiting, whole)
+
+removed-is-short : length (body_bytes Removed) ≤ 156400
 unfolding body_bytes
 removed-is-short = omega arith
 
 -- ---- any body
 
-process-is-short : (own most pid : ℕ) (body : Body) → most ≤ 20000 → IsBodyWithin own most (Proc pid) body
+-- The body of a process has at most 120,058 bytes,
+pub process-is-short : (own most pid : ℕ) (body : Body) → most ≤ 20000 → IsBodyWithin own most (Proc pid) body
     → length (body_bytes body) ≤ 120058
 unfolding body_bytes
 process-is-short own most pid (Living row) few h =
@@ -130,18 +153,19 @@ process-is-short own most pid (AQueue q) few h = absurd h
 process-is-short own most pid (ASet s) few h = absurd h
 process-is-short own most pid Removed few h = absurd h
 
--- A body that a node holds has at most 120,058 bytes.
+-- and any body that a node holds at most 156,400.
 pub body-is-short : (own most : ℕ) (name : Name) (body : Body) → most ≤ 20000 → IsBodyWithin own most name body
-    → length (body_bytes body) ≤ 120058
-body-is-short own most (Proc pid) body few h = process-is-short own most pid body few h
-body-is-short own most (Msg id) (AQueue q) few h = let short = queue-is-short q h in omega (arith, short)
-body-is-short own most (Msg id) Removed few h = let short = removed-is-short in omega (arith, short)
+    → length (body_bytes body) ≤ 156400
+body-is-short own most (Proc pid) body few h =
+    let short = process-is-short own most pid body few h in omega (arith, short)
+body-is-short own most (Msg id) (AQueue q) few h = queue-is-short q h
+body-is-short own most (Msg id) Removed few h = removed-is-short
 body-is-short own most (Msg id) (Living row) few h = absurd h
 body-is-short own most (Msg id) (Ended e) few h = absurd h
 body-is-short own most (Msg id) Gone few h = absurd h
 body-is-short own most (Msg id) (ASet s) few h = absurd h
-body-is-short own most (Sem id) (ASet s) few h = let short = set-is-short s h in omega (arith, short)
-body-is-short own most (Sem id) Removed few h = let short = removed-is-short in omega (arith, short)
+body-is-short own most (Sem id) (ASet s) few h = set-is-short s h
+body-is-short own most (Sem id) Removed few h = removed-is-short
 body-is-short own most (Sem id) (Living row) few h = absurd h
 body-is-short own most (Sem id) (Ended e) few h = absurd h
 body-is-short own most (Sem id) Gone few h = absurd h
@@ -255,7 +279,7 @@ packed-are-short own most (e ∷ bodies) few r all =
           let rest =
           others-are-short own most bodies all.1
           (subst (λ (n : ℕ). Above n bodies) same (above-first e bodies r))
-          in let short = body-is-short own most (Proc e.0) e.1 few (all.0).1
+          in let short = process-is-short own most e.0 e.1 few (all.0).1
           in omega (arith, whole, rest, short)
       | inr short ↦
           let rest = packed-are-short own most bodies few (rising-rest e bodies r) all.1

@@ -1,5 +1,4 @@
 pub mod Tables
-pub mod Served
 pub mod Plain
 pub mod Rises
 pub mod Calls
@@ -7,8 +6,13 @@ pub mod Vars
 pub mod Lines
 pub mod Lengths
 pub mod Replies
+pub mod Tries
+pub mod Waking
+pub mod Replied
+pub mod Served
 pub mod Named
 pub mod Carried
+pub mod Read
 pub mod Reading
 pub mod Frames
 pub mod Steps
@@ -16,4 +20,5 @@ pub mod NewNames
 pub mod Routed
 pub mod Released
 pub mod Started
+pub mod Strikes
 pub mod Turns

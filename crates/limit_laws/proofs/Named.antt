@@ -2,18 +2,23 @@
 use Rattle.std.proofs.Common.{◌≡◌, Option, Some, None, ℕ, true, not, nat_eq, refl, ◌≤◌, List, ◌+◌, [], ◌∷◌, is_some, zero, suc, arith}
 use Rattle.std.proofs.lemmas.Bool.{false≢true}
 use Rattle.std.specs.List.{AllByRecursion, range_with_len}
-use Rattle.limit_laws.proofs.Served.{family-more}
+use Rattle.limit_laws.proofs.Served.{family-more, filtered-is-short}
 use Rattle.limit_laws.proofs.Tables.{all-put, all-get, all-without}
+use Rattle.limit_laws.specs.Bodies.{IsAwaitedWithin, IsWaiterWithin}
 use Rattle.limit_laws.specs.Within.{IsDeedWithin, AreDeedsWithin, IsBodyWithin, AllNamed}
 use Rattle.node_model.specs.Bodies.{Body, Living, Ended, Gone, Deeds, AQueue, ASet, Removed}
 use Rattle.node_model.specs.Kinds.{Named, for_kind, number_of, get_named, put_named, with_kind, none_named, put_all, without_named, PerKind}
+use Rattle.node_model.specs.Serving.{body_without, without_caller}
 use Rattle.number_maps.proofs.Rising.{rising-nothing, rising-put, rising-filter}
 use Rattle.number_maps.specs.Rising.{IsRising}
 use Rattle.pico_base.specs.declared.numbers.Kind.TheVariants as kinds
 use Rattle.pico_base.specs.declared.numbers.Kind.{Kind}
 use Rattle.pico_base.specs.declared.numbers.Name.TheVariants.{Proc, Msg, Sem}
 use Rattle.pico_base.specs.declared.numbers.Name.{Name}
-use Rattle.kernel_laws.proofs.Lists.{all-more}
+use Rattle.kernel_laws.proofs.Lists.{all-filtered, all-more}
+use Rattle.waiter_fields.specs.Settling.{is_waiter}
+use Rattle.waiting_model.specs.Waiters.{Awaited}
+use Rattle.waiting_model.specs.declared.callers.Waiting.{Waiting}
 
 module _ {V : Type 0} (P : Name → V → Type 0) where
   -- it holds of a map without names
@@ -182,3 +187,32 @@ deeds-more own most more deeds le all =
             (λ e h. (h.0, body-more own most more (Sem e.0) e.1 le h.1)) all.each.sets;
       };
     }
+
+-- ---- a waiter less
+
+one-less-within : {T : Type 0} {IsLike : T → Type 0} (object : Awaited T) (pid ticket : ℕ)
+    → IsAwaitedWithin IsLike object → IsAwaitedWithin IsLike (without_caller pid ticket object)
+one-less-within object pid ticket k =
+    let few = k.waiters.few
+    in let fewer = filtered-is-short (λ (w : Waiting). not (is_waiter pid ticket w)) object.waiters
+    in record {
+      state = k.state;
+      waiters = record {
+        few = omega (arith, few, fewer);
+        each = all-filtered IsWaiterWithin (λ w. not (is_waiter pid ticket w)) object.waiters k.waiters.each;
+      };
+    }
+
+-- A body stays within the limits where one doesn't wait any more.
+pub without-caller-within : (own most : ℕ) (name : Name) (body : Body) (pid ticket : ℕ)
+    → IsBodyWithin own most name body → IsBodyWithin own most name (body_without pid ticket body)
+without-caller-within own most (Msg id) (AQueue q) pid ticket h = one-less-within q pid ticket h
+without-caller-within own most (Sem id) (ASet s) pid ticket h = one-less-within s pid ticket h
+without-caller-within own most (Proc n) (AQueue q) pid ticket h = absurd h
+without-caller-within own most (Proc n) (ASet s) pid ticket h = absurd h
+without-caller-within own most (Msg id) (ASet s) pid ticket h = absurd h
+without-caller-within own most (Sem id) (AQueue q) pid ticket h = absurd h
+without-caller-within own most name (Living row) pid ticket h = h
+without-caller-within own most name (Ended ending) pid ticket h = h
+without-caller-within own most name Gone pid ticket h = h
+without-caller-within own most name Removed pid ticket h = h

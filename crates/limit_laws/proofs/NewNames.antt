@@ -21,6 +21,7 @@ use Rattle.limit_laws.proofs.Served.{child-within}
 use Rattle.limit_laws.proofs.Steps.{tables-within, directory-within, answered-is, with-node-within, with-deeds-within, with-directory-step, send-within, carry-out-within, placed-within}
 use Rattle.kernel_laws.proofs.Lists.{all-dropped}
 use Rattle.limit_laws.proofs.Vars.{set-are-variables}
+use Rattle.limit_laws.proofs.Waking.{unawaited-within}
 use Rattle.limit_laws.specs.Within.{IsDeedWithin, AreDeedsWithin, AreVariables, IsDirectoryWithin, IsNodeWithin, IsStepWithin, IsUnderWayWithin}
 use Rattle.node_model.specs.Bodies.{Body, Living, Ended, Gone, AQueue, ASet, Removed, row_of}
 use Rattle.node_model.specs.Caller.{Caller, lines_of, caller_place, answer_call, answer_at}
@@ -41,6 +42,7 @@ use Rattle.pico_base.specs.declared.reply.Reply.{Reply}
 use Rattle.pico_base.specs.declared.script.Line.{Line}
 use Rattle.pico_base.specs.declared.script.Script.{Script}
 use Rattle.rpc_frame.specs.declared.frame.Frame.TheVariants as frames
+use Rattle.waiting_model.specs.Waiters.{unawaited}
 use Rattle.world_model.specs.Node.{Node, is_leader, own_row, asked_here}
 use Rattle.world_model.specs.Numbers.{make_set, Taken, take_number, make, tell_place, fork_with, make_object, make_taken, make_with, take_first, take_from, take_from_next, with_next_range, knows_any}
 use Rattle.world_model.specs.Step.{send, Step, with_directory, with_node, with_deeds, carry_out, enter, reply_here, reply_to}
@@ -275,7 +277,8 @@ module _ (script : Script) (sound : IsSoundScript script) where
       → Of StepIs (make_set script s call number r)
   make-set-within s call number (Err e) k ticket low fits = tt
   make-set-within s call number (Ok set) k ticket low fits =
-      make-object-within s call (Sem number) (ASet set) number k ticket (low, fits set refl)
+      make-object-within s call (Sem number) (ASet (unawaited set)) number k ticket
+      (low, unawaited-within (fits set refl))
 
   make-with-within : (s : Step) (call : Call) (number : ℕ) → StepIs s → s.node.caller.under_way ≡ Some call
       → 1 ≤ number → Of StepIs (make_with script s call number)
@@ -285,8 +288,8 @@ module _ (script : Script) (sound : IsSoundScript script) where
   make-with-within s (calls.MsgGet key create excl) number k is low =
       let under : IsUnderWayWithin script s.node.number s.node.pid s.node.caller (calls.MsgGet key create excl) =
       k.node.under_way (calls.MsgGet key create excl) is
-      in make-object-within s (calls.MsgGet key create excl) (Msg number) (AQueue empty_queue) number k under.ticket
-      (low, queue-within-rule.new)
+      in make-object-within s (calls.MsgGet key create excl) (Msg number) (AQueue (unawaited empty_queue)) number k
+      under.ticket (low, unawaited-within queue-within-rule.new)
   make-with-within s (calls.SemGet key count create excl) number k is low =
       let under : IsUnderWayWithin script s.node.number s.node.pid s.node.caller
       (calls.SemGet key count create excl) = k.node.under_way (calls.SemGet key count create excl) is

@@ -1,6 +1,6 @@
 -- Tests and lengths, as frames need them.
 use Rattle.std.proofs.Common.{◌≡◌, ℕ, suc, ◌+◌, ◌*◌, ◌≤◌, true, nat_lt, List, [], ◌∷◌, length, ap, ◌∙◌, arith}
-use Rattle.std.proofs.lemmas.Bool.{and_from, le-leb, lt-ltb}
+use Rattle.std.proofs.lemmas.Bool.{and_from, le-leb, lt-ltb, ltb-true}
 use Rattle.std.proofs.lemmas.List.{length-append}
 use Rattle.std.specs.List.{flat_map}
 use Rattle.frame_bytes.specs.Frames.{frame_body, max_frame}
@@ -15,6 +15,10 @@ fields-are-frame f fields short =
 -- a number that is at least 1
 pub some-nonzero : (n : ℕ) → 1 ≤ n → nat_lt 0 n ≡ true
 some-nonzero n low = lt-ltb 0 n (omega (arith, low))
+
+-- and the other way round
+pub nonzero-some : (n : ℕ) → nat_lt 0 n ≡ true → 1 ≤ n
+nonzero-some n h = let less = ltb-true 0 n h in omega (arith, less)
 
 -- Fields of one length each have so many times that length.
 pub fields-length : {A : Type 0} (field : A → List ℕ) (size : ℕ) (xs : List A) → ((x : A) → length (field x) ≡ size)

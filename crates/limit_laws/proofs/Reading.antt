@@ -1,160 +1,276 @@
 -- The body that bytes are read as is within the limits, where it is a queue's or a set's. The numbers that stand for
 -- bytes may be any.
-use Rattle.std.proofs.Common.{◌≡◌, ℕ, zero, suc, ◌≤◌, true, false, cond, eqb, ltb, ℤ, ◌≤ℤ◌, pos, List, [], ◌∷◌, length, take, drop, Option, Some, None, refl, ap, subst, arith}
-use Rattle.std.proofs.lemmas.Bool.{false≢true, ltb-false, or_parts}
+use Rattle.std.proofs.Common.{◌≡◌, ℕ, zero, suc, ◌≤◌, Bool, true, false, not, eqb, ltb, ℤ, ◌≤ℤ◌, pos, List, [], ◌∷◌, length, Option, Some, None, is_some, refl, subst, arith}
+use Rattle.std.proofs.lemmas.Bool.{and_parts, false≢true, leb-true, ltb-false, or_parts}
 use Rattle.std.proofs.lemmas.Int.{ints}
-use Rattle.std.proofs.lemmas.List.{length-take}
-use Rattle.std.proofs.lemmas.List.Elements.{All-cons, All-nil}
-use Rattle.std.specs.Int.{Width, w16, w32, cast_signed}
+use Rattle.std.proofs.lemmas.List.Elements.{All-from_recursion}
+use Rattle.std.specs.Int.{w16, w32}
+use Rattle.std.specs.List.{AllByRecursion, list_all}
 use Rattle.std.specs.Option.{option_map}
-use Rattle.std.specs.Prelude.{All, ◌==◌, int_lt}
-use Rattle.body_fields.proofs.Fields.{bind_some, guard_some, guard_then, some_is, whole_is}
-use Rattle.body_fields.specs.Fields.{many_at, number_at, number_upto, whole}
+use Rattle.std.specs.Prelude.{◌==◌, int_le, nat_le, nat_lt}
+use Rattle.sysv_msg.specs.Reading.{call_at, class_at, fields_at as queue_fields_at, is_settled as is_queue_settled, message_at, message_of, messages_at, queue_at, queue_of, settled_at, settled_or_none, short_at, state_at, waits}
+use Rattle.sysv_sem.specs.Reading.{fields_at as set_fields_at, have_own, is_good_count, is_settled as is_set_settled, is_short_op, row_at, semaphore_at, set_at, waiter_at as set_waiter_at, waiters_at as set_waiters_at, waiting_of}
+use Rattle.body_fields.proofs.Fields.{bind_some, guard_ended, guard_then}
+use Rattle.body_fields.specs.Fields.{byte_upto, number_upto, whole}
+use Rattle.frame_bytes.specs.Calls.{asked_call_at, call_bytes}
+use Rattle.frame_bytes.specs.Fields.{node_at, positive_at, signed_at, text_at, word_at}
+use Rattle.frame_bytes.specs.Frames.{asked_at, asked_of}
+use Rattle.frame_bytes.specs.Readers.{byte_at, counted, one, passing, two}
 use Rattle.kernel_laws.proofs.Plain.{by_test, Of, of-map}
 use Rattle.kernel_laws.specs.Queues.{IsMessage, IsQueueWithinLimits}
-use Rattle.kernel_laws.specs.Sets.{IsSetWithinLimits}
 use Rattle.kernel_model.specs.Queue.{Message, Queue, bytes_of, max_messages, max_queue_bytes, max_text}
-use Rattle.kernel_model.specs.SemaphoreSet.{Semaphore, SemaphoreSet, is_bad_count, max_semaphores, max_value, set_of}
+use Rattle.kernel_model.specs.SemaphoreSet.{Semaphore, SemaphoreSet, is_bad_count, max_operations, max_semaphores, max_value, set_of}
+use Rattle.limit_laws.proofs.Plain.{nonzero-some}
+use Rattle.limit_laws.proofs.Read.{Any, Gets, got-whole, gets-any, gets-byte-upto, gets-counted, gets-four, gets-more, gets-one, gets-passing, gets-three, gets-two, gets-upto}
+use Rattle.limit_laws.proofs.Tries.{ComesWithin, operation-is-short, queue-tries-within}
+use Rattle.limit_laws.specs.Bodies.{AreWaitersWithin, IsQueueWithin, IsSetWithin, IsWaiterWithin}
 use Rattle.limit_laws.specs.Within.{IsBodyWithin}
 use Rattle.node_model.specs.Bodies.{AQueue, ASet, Removed}
 use Rattle.node_model.specs.Kinds.{is_object}
 use Rattle.node_model.specs.Spelling.{alone, read_body, read_deed, read_queue, read_set}
-use Rattle.pico_base.specs.Options.{◌>>=◌}
+use Rattle.pico_base.specs.declared.call.Call.TheVariants as calls
+use Rattle.pico_base.specs.declared.call.Call.{Call}
 use Rattle.pico_base.specs.declared.numbers.Name.TheVariants.{Proc, Msg, Sem}
 use Rattle.pico_base.specs.declared.numbers.Name.{Name}
+use Rattle.rpc_frame.specs.declared.asked.Asked.{Asked}
 use Rattle.rpc_frame.specs.declared.deed.PackedDeed.{PackedDeed}
-use Rattle.sysv_msg.specs.Reading.{all_messages_at, class_at, fields_at as queue_fields_at, message_at, messages_at, queue_at, text_at}
-use Rattle.sysv_sem.proofs.Semaphores.{let_through}
-use Rattle.sysv_sem.specs.Reading.{counted_at, fields_at as set_fields_at, semaphore_at, semaphores_at, set_at}
+use Rattle.waiter_fields.specs.Waiters.{are_different, head_at, max_waiters, processes_of, waiter_at, waiter_of, waiters_at}
+use Rattle.waiting_model.specs.Queue.{try_queue}
+use Rattle.waiting_model.specs.Waiters.{Attempt, Awaited, awaited}
+use Rattle.waiting_model.specs.declared.callers.Waiting.{Waiting}
 
--- ---- a queue
+-- a number that is at least 1
+positive-within : Gets (λ n. 1 ≤ n) positive_at
+unfolding positive_at
+positive-within =
+    gets-more (λ n. Any n × (nat_lt 0 n ≡ true)) (λ n. 1 ≤ n) (passing (nat_lt 0) word_at)
+    (gets-passing Any (nat_lt 0) word_at (gets-any word_at)) (λ n h. nonzero-some n h.1)
 
-upto-within : (w : Width) (most : ℕ) (bytes : List ℕ) (n : ℕ × List ℕ) → number_upto w most bytes ≡ Some n
-    → n.0 ≤ most
-unfolding number_upto
-upto-within w most bytes n e =
-    let a = bind_some (number_at w bytes) (λ x. cond (ltb most x.0) None (Some x)) n e in
-    let g = guard_some (ltb most a.0.0) a.0 n a.2 in
-    subst (λ (x : ℕ × List ℕ). x.0 ≤ most) g.1 (ltb-false _ _ g.0)
+-- ---- a queue's messages
 
-text-within : (limit : ℕ) (bytes : List ℕ) (x : List ℕ × List ℕ) → text_at limit bytes ≡ Some x
-    → length x.0 ≤ limit
-unfolding text_at
-text-within limit bytes x e =
-    let b = bind_some (number_upto w32 limit bytes)
-    (λ n. cond (ltb (length n.1) n.0) None (Some (take n.0 n.1, drop n.0 n.1))) x e in
-    let n = b.0 in
-    let g = guard_some (ltb (length n.1) n.0) (take n.0 n.1, drop n.0 n.1) x b.2 in
-    let most = upto-within w32 limit bytes n b.1 in
-    let cut = length-take n.0 n.1 in
-    subst (λ (p : List ℕ × List ℕ). length p.0 ≤ limit) g.1 (omega (arith, cut, most))
+at-least-one : (z : ℤ) → int_le (pos 1) z ≡ true → pos 1 ≤ℤ z
+at-least-one z e = grind (arith, ints)
 
-not-below : (z : ℤ) → int_lt z (pos 1) ≡ false → pos 1 ≤ℤ z
-not-below z e = grind (arith, ints)
-
-class-within : (bytes : List ℕ) (x : ℤ × List ℕ) → class_at bytes ≡ Some x → pos 1 ≤ℤ x.0
+class-within : Gets (λ z. pos 1 ≤ℤ z) class_at
 unfolding class_at
-class-within bytes x e =
-    let b = bind_some (number_at w32 bytes)
-    (λ n. cond (int_lt (cast_signed w32 n.0) (pos 1)) None (Some (cast_signed w32 n.0, n.1))) x e in
-    let n = b.0 in
-    let g = guard_some (int_lt (cast_signed w32 n.0) (pos 1)) (cast_signed w32 n.0, n.1) x b.2 in
-    subst (λ (p : ℤ × List ℕ). pos 1 ≤ℤ p.0) g.1 (not-below (cast_signed w32 n.0) g.0)
+class-within =
+    gets-more (λ z. Any z × (int_le (pos 1) z ≡ true)) (λ z. pos 1 ≤ℤ z) (passing (int_le (pos 1)) signed_at)
+    (gets-passing Any (int_le (pos 1)) signed_at (gets-any signed_at)) (λ z h. at-least-one z h.1)
 
-message-within : (bytes : List ℕ) (x : Message × List ℕ) → message_at bytes ≡ Some x → IsMessage x.0
+short-within : Gets (λ text. length text ≤ 4096) short_at
+unfolding short_at
+short-within =
+    gets-more (λ text. Any text × (nat_le (length text) max_text ≡ true)) (λ text. length text ≤ 4096)
+    (passing (λ text. nat_le (length text) max_text) text_at)
+    (gets-passing Any (λ text. nat_le (length text) max_text) text_at (gets-any text_at))
+    (λ text h. leb-true (length text) 4096 h.1)
+
+message-within : Gets IsMessage message_at
 unfolding message_at
-message-within bytes x e =
-    let a = bind_some (class_at bytes) _ x e in
-    let b = bind_some (text_at max_text a.0.1) _ x a.2 in
-    let class = class-within bytes a.0 a.1 in
-    let text = text-within max_text a.0.1 b.0 b.1 in
-    let made : Message × List ℕ = (record { class = a.0.0; text = b.0.0 }, b.0.1) in
-    let short : length b.0.0 ≤ 4096 = omega (arith, text) in
-    subst (λ (y : Message × List ℕ). IsMessage y.0) (some_is made x b.2) (record { class = class; text = short })
+message-within =
+    gets-two IsMessage (λ z. pos 1 ≤ℤ z) (λ text. length text ≤ 4096) class_at short_at message_of class-within
+    short-within (λ class text p q. record { class = p; text = q })
 
-many-within : {A : Type 0} (P : A → Type 0) (one : List ℕ → Option (A × List ℕ))
-    → ((bytes : List ℕ) (x : A × List ℕ) → one bytes ≡ Some x → P x.0) → (n : ℕ) (bytes : List ℕ)
-    → (x : List A × List ℕ) → many_at one n bytes ≡ Some x → (length x.0 ≡ n) × All P x.0
-many-within {A} P one each zero bytes x e =
-    subst (λ (y : List A × List ℕ). (length y.0 ≡ 0) × All P y.0) (some_is ([], bytes) x e) (refl, All-nil P)
-many-within {A} P one each (suc n) bytes x e =
-    let a = bind_some (one bytes) _ x e in
-    let b = bind_some (many_at one n a.0.1) _ x a.2 in
-    let others = many-within P one each n a.0.1 b.0 b.1 in
-    let made : List A × List ℕ = (a.0.0 ∷ b.0.0, b.0.1) in
-    subst (λ (y : List A × List ℕ). (length y.0 ≡ suc n) × All P y.0) (some_is made x b.2)
-    (ap suc others.0, All-cons P a.0.0 b.0.0 (each bytes a.0 a.1) others.1)
+-- the messages of a queue, which aren't too many, nor too long together
+record AreMessages (ms : List Message) : Type 0 where
+  pub count : length ms ≤ 1024
+  pub bytes : bytes_of ms ≤ 16384
+  pub each : AllByRecursion IsMessage ms
 
-all-within : (n : ℕ) (bytes : List ℕ) (ms : List Message) → all_messages_at n bytes ≡ Some ms
-    → (length ms ≡ n) × (bytes_of ms ≤ max_queue_bytes) × All IsMessage ms
-unfolding all_messages_at messages_at
-all-within n bytes ms e =
-    let read = bind_some (whole (messages_at n bytes)) _ ms e in
-    let g = guard_some (ltb max_queue_bytes (bytes_of read.0)) read.0 ms read.2 in
-    let t = many-within IsMessage message_at message-within n bytes (read.0, [])
-    (whole_is (messages_at n bytes) read.0 read.1) in
-    subst (λ (ms : List Message). (length ms ≡ n) × (bytes_of ms ≤ max_queue_bytes) × All IsMessage ms) g.1
-    (t.0, ltb-false _ _ g.0, t.1)
+messages-within : Gets AreMessages messages_at
+unfolding messages_at
+messages-within =
+    gets-more
+    (λ ms. ((length ms ≤ max_messages) × AllByRecursion IsMessage ms) × (nat_le (bytes_of ms) max_queue_bytes ≡ true))
+    AreMessages
+    (passing (λ ms. nat_le (bytes_of ms) max_queue_bytes) (counted (number_upto w16 max_messages) message_at))
+    (gets-passing (λ ms. (length ms ≤ max_messages) × AllByRecursion IsMessage ms)
+    (λ ms. nat_le (bytes_of ms) max_queue_bytes) (counted (number_upto w16 max_messages) message_at)
+    (gets-counted (λ n. n ≤ max_messages) IsMessage (number_upto w16 max_messages) message_at
+    (gets-upto w16 max_messages) message-within))
+    (λ ms h. record { count = h.0.0; bytes = leb-true (bytes_of ms) max_queue_bytes h.1; each = h.0.1 })
 
-fields-within : (bytes : List ℕ) (q : Queue) → queue_fields_at bytes ≡ Some q → IsQueueWithinLimits q
-unfolding queue_fields_at
-fields-within bytes q e =
-    let a = bind_some (number_upto w32 max_queue_bytes bytes) _ q e in
-    let b = bind_some (number_at w32 a.0.1) _ q a.2 in
-    let c = bind_some (number_at w32 b.0.1) _ q b.2 in
-    let d = bind_some (number_upto w16 max_messages c.0.1) _ q c.2 in
-    let f = bind_some (all_messages_at d.0.0 d.0.1) _ q d.2 in
-    let made : Queue = record { messages = f.0; qbytes = a.0.0; last_sender = b.0.0; last_receiver = c.0.0 } in
-    let limit = upto-within w32 max_queue_bytes bytes a.0 a.1 in
-    let count = upto-within w16 max_messages c.0.1 d.0 d.1 in
-    let messages = all-within d.0.0 d.0.1 f.0 f.1 in
-    let few : length f.0 ≤ 1024 = omega (arith, messages.0, count) in
-    subst IsQueueWithinLimits {x = made} (some_is made q f.2)
-    (record { limit = limit; bytes = messages.1; count = few; messages = messages.2 })
+state-within : Gets IsQueueWithinLimits state_at
+unfolding state_at
+state-within =
+    gets-four IsQueueWithinLimits (λ n. n ≤ max_queue_bytes) Any Any AreMessages (number_upto w32 max_queue_bytes)
+    word_at word_at messages_at queue_of (gets-upto w32 max_queue_bytes) (gets-any word_at) (gets-any word_at)
+    messages-within
+    (λ qbytes sender receiver ms p q r s. record {
+      limit = p;
+      bytes = s.bytes;
+      count = s.count;
+      messages = All-from_recursion IsMessage ms s.each;
+    })
 
-queue-within : (bytes : List ℕ) (q : Queue) → queue_at bytes ≡ Some q → IsQueueWithinLimits q
+-- ---- those who wait at a queue
+
+abbrev HasTicket : Waiting → Type 0
+HasTicket w = 1 ≤ w.ticket
+
+head-within : Gets (λ (head : ℕ × ℕ × ℕ). 1 ≤ head.1) head_at
+unfolding head_at
+head-within =
+    gets-three (λ (head : ℕ × ℕ × ℕ). 1 ≤ head.1) Any (λ n. 1 ≤ n) Any node_at positive_at word_at
+    (λ caller ticket pid. (caller, ticket, pid)) (gets-any node_at) positive-within (gets-any word_at)
+    (λ caller ticket pid p q r. q)
+
+waiter-within : Gets HasTicket (waiter_at call_at)
+unfolding waiter_at
+waiter-within =
+    gets-two HasTicket (λ (head : ℕ × ℕ × ℕ). 1 ≤ head.1) Any head_at call_at waiter_of head-within (gets-any call_at)
+    (λ head call p q. p)
+
+waiters-read : Gets (λ ws. (length ws ≤ max_waiters) × AllByRecursion HasTicket ws) (waiters_at call_at)
+unfolding waiters_at
+waiters-read =
+    gets-more
+    (λ ws. ((length ws ≤ max_waiters) × AllByRecursion HasTicket ws) × (are_different (processes_of ws) ≡ true))
+    (λ ws. (length ws ≤ max_waiters) × AllByRecursion HasTicket ws)
+    (passing (λ ws. are_different (processes_of ws)) (counted (byte_upto max_waiters) (waiter_at call_at)))
+    (gets-passing (λ ws. (length ws ≤ max_waiters) × AllByRecursion HasTicket ws)
+    (λ ws. are_different (processes_of ws)) (counted (byte_upto max_waiters) (waiter_at call_at))
+    (gets-counted (λ n. n ≤ max_waiters) HasTicket (byte_upto max_waiters) (waiter_at call_at)
+    (gets-byte-upto max_waiters) waiter-within)) (λ ws h. h.0)
+
+-- a call that can't go on is short
+stopped-is-short : (call : Call) (o : Option (Attempt Queue)) → ComesWithin IsQueueWithinLimits call o
+    → not (is_some o) ≡ true → length (call_bytes call) ≤ 4110
+stopped-is-short call None comes stops = comes
+stopped-is-short call (Some a) comes stops = absurd (false≢true stops)
+
+settled-within : (q : Queue) (ws : List Waiting) → IsQueueWithinLimits q → AllByRecursion HasTicket ws
+    → list_all (waits q) ws ≡ true → AllByRecursion IsWaiterWithin ws
+settled-within q [] k all settled = tt
+settled-within q (w ∷ ws) k all settled =
+    let stops = and_parts (waits q w) (list_all (waits q) ws) settled
+    in (
+      record {
+        ticket = all.0;
+        short = stopped-is-short w.call (try_queue q w.pid w.call) (queue-tries-within q w.pid w.call k) stops.0;
+      },
+      settled-within q ws k all.1 stops.1,
+    )
+
+queue-fields-within : (bytes : List ℕ) (q : Awaited Queue) → queue_fields_at bytes ≡ Some q → IsQueueWithin q
+unfolding queue_fields_at settled_at
+queue-fields-within bytes q e =
+    let state = bind_some (state_at bytes) (λ x. settled_at x.0 x.1) q e
+    in let ws =
+    bind_some (whole (waiters_at call_at state.0.1)) (λ x. settled_or_none (awaited state.0.0 x)) q state.2
+    in let made : Awaited Queue = awaited state.0.0 ws.0
+    in let settled = guard_ended (is_queue_settled made) made q ws.2
+    in let k : IsQueueWithinLimits state.0.0 = state-within bytes state.0 state.1
+    in let all =
+    got-whole (λ xs. (length xs ≤ max_waiters) × AllByRecursion HasTicket xs) (waiters_at call_at) state.0.1 ws.0
+    waiters-read ws.1
+    in subst IsQueueWithin settled.1
+    (record {
+      state = k;
+      waiters = record { few = all.0; each = settled-within state.0.0 ws.0 k all.1 settled.0 };
+    })
+
+queue-within : (bytes : List ℕ) (q : Awaited Queue) → queue_at bytes ≡ Some q → IsQueueWithin q
 unfolding queue_at
-queue-within [] q e = absurd (cc)
-queue-within (code ∷ bytes) q e = fields-within bytes q (guard_then (eqb code 4) (queue_fields_at bytes) q e).1
+queue-within [] q e = absurd cc
+queue-within (code ∷ bytes) q e = queue-fields-within bytes q (guard_then (eqb code 4) (queue_fields_at bytes) q e).1
 
 -- ---- a set
 
-semaphore-within : (bytes : List ℕ) (x : Semaphore × List ℕ) → semaphore_at bytes ≡ Some x → x.0.value ≤ 32767
-unfolding semaphore_at
-semaphore-within bytes x e =
-    let a = bind_some (number_upto w16 max_value bytes)
-    (λ value. number_at w32 value.1 >>= λ last. Some (record { value = value.0; last = last.0 }, last.1)) x e in
-    let b = bind_some (number_at w32 a.0.1) (λ last. Some (record { value = a.0.0; last = last.0 }, last.1)) x a.2 in
-    let made : Semaphore × List ℕ = (record { value = a.0.0; last = b.0.0 }, b.0.1) in
-    subst (λ (y : Semaphore × List ℕ). y.0.value ≤ 32767) (some_is made x b.2)
-    (upto-within w16 max_value bytes a.0 a.1)
-
 abbrev HasLowValue : Semaphore → Type 0
 HasLowValue s = s.value ≤ 32767
+
+semaphore-within : Gets HasLowValue semaphore_at
+unfolding semaphore_at
+semaphore-within =
+    gets-two HasLowValue (λ n. n ≤ max_value) Any (number_upto w16 max_value) word_at
+    (λ value last. record { value = value; last = last }) (gets-upto w16 max_value) (gets-any word_at)
+    (λ value last p q. p)
 
 some-count : (n : ℕ) → eqb n 0 ≡ false → 1 ≤ n
 some-count zero e = absurd cc
 some-count (suc n) e = omega arith
 
-counted-within : (count : ℕ) (bytes : List ℕ) (s : SemaphoreSet) → counted_at count bytes ≡ Some s
-    → IsSetWithinLimits s
-unfolding counted_at set_fields_at semaphores_at
-counted-within count bytes s e =
-    let g = let_through (is_bad_count count) (whole (semaphores_at count bytes) >>= λ x. Some (set_of x)) s e in
-    let bad = or_parts (eqb count 0) (ltb max_semaphores count) g.0 in
-    let a = bind_some (whole (semaphores_at count bytes)) (λ x. Some (set_of x)) s g.1 in
-    let t = many-within HasLowValue semaphore_at semaphore-within count bytes (a.0, [])
-    (whole_is (semaphores_at count bytes) a.0 a.1) in
-    let least : 1 ≤ length a.0 = omega (arith, t.0, some-count count bad.0) in
-    let most : length a.0 ≤ 64 = omega (arith, t.0, ltb-false _ _ bad.1) in
-    subst IsSetWithinLimits (some_is (set_of a.0) s a.2) (record { least = least; most = most; values = t.1 })
+not-true : (b : Bool) → not b ≡ true → b ≡ false
+not-true false h = refl
+not-true true h = absurd (false≢true h)
 
-set-within : (bytes : List ℕ) (s : SemaphoreSet) → set_at bytes ≡ Some s → IsSetWithinLimits s
+good-count : (n : ℕ) → is_good_count n ≡ true → (1 ≤ n) × (n ≤ 64)
+good-count n good =
+    let bad = or_parts (eqb n 0) (ltb max_semaphores n) (not-true (is_bad_count n) good)
+    in (some-count n bad.0, ltb-false _ _ bad.1)
+
+-- the semaphores of a set, some and not too many
+record AreSemaphores (row : List Semaphore) : Type 0 where
+  pub count : (1 ≤ length row) × (length row ≤ 64)
+  pub each : AllByRecursion HasLowValue row
+
+row-within : Gets AreSemaphores row_at
+unfolding row_at
+row-within =
+    gets-more (λ row. (Any (length row) × (is_good_count (length row) ≡ true)) × AllByRecursion HasLowValue row)
+    AreSemaphores (counted (passing is_good_count byte_at) semaphore_at)
+    (gets-counted (λ n. Any n × (is_good_count n ≡ true)) HasLowValue (passing is_good_count byte_at) semaphore_at
+    (gets-passing Any is_good_count byte_at (gets-any byte_at)) semaphore-within)
+    (λ row h. record { count = good-count (length row) h.0.1; each = h.1 })
+
+-- ---- those who wait at a set
+
+asked-within : Gets (λ (asked : Asked). 1 ≤ asked.ticket) asked_at
+unfolding asked_at
+asked-within =
+    gets-four (λ (asked : Asked). 1 ≤ asked.ticket) Any (λ n. 1 ≤ n) Any Any node_at positive_at word_at asked_call_at
+    asked_of (gets-any node_at) positive-within (gets-any word_at) (gets-any asked_call_at)
+    (λ caller ticket pid call p q r s. q)
+
+short-op-is-short : (call : Call) → is_short_op call ≡ true → length (call_bytes call) ≤ 4110
+short-op-is-short (calls.SemOp id steps) h = operation-is-short id steps (leb-true (length steps) max_operations h)
+short-op-is-short call h = absurd (false≢true h)
+
+set-waiter-within : Gets IsWaiterWithin set_waiter_at
+unfolding set_waiter_at
+set-waiter-within =
+    gets-more (λ w. HasTicket w × (is_short_op w.call ≡ true)) IsWaiterWithin
+    (passing (λ w. is_short_op w.call) (one asked_at waiting_of))
+    (gets-passing HasTicket (λ w. is_short_op w.call) (one asked_at waiting_of)
+    (gets-one HasTicket (λ (asked : Asked). 1 ≤ asked.ticket) asked_at waiting_of asked-within (λ asked p. p)))
+    (λ w h. record { ticket = h.0; short = short-op-is-short w.call h.1 })
+
+set-waiters-within : Gets AreWaitersWithin set_waiters_at
+unfolding set_waiters_at
+set-waiters-within =
+    gets-more (λ ws. ((length ws ≤ max_waiters) × AllByRecursion IsWaiterWithin ws) × (have_own ws ≡ true))
+    AreWaitersWithin (passing have_own (counted (byte_upto max_waiters) set_waiter_at))
+    (gets-passing (λ ws. (length ws ≤ max_waiters) × AllByRecursion IsWaiterWithin ws) have_own
+    (counted (byte_upto max_waiters) set_waiter_at)
+    (gets-counted (λ n. n ≤ max_waiters) IsWaiterWithin (byte_upto max_waiters) set_waiter_at
+    (gets-byte-upto max_waiters) set-waiter-within)) (λ ws h. record { few = h.0.0; each = h.0.1 })
+
+set-fields-within : Gets IsSetWithin set_fields_at
+unfolding set_fields_at
+set-fields-within =
+    gets-more (λ s. IsSetWithin s × (is_set_settled s ≡ true)) IsSetWithin
+    (passing is_set_settled (two row_at set_waiters_at (λ row ws. awaited (set_of row) ws)))
+    (gets-passing IsSetWithin is_set_settled (two row_at set_waiters_at (λ row ws. awaited (set_of row) ws))
+    (gets-two IsSetWithin AreSemaphores AreWaitersWithin row_at set_waiters_at
+    (λ row ws. awaited (set_of row) ws) row-within set-waiters-within
+    (λ row ws p q. record {
+      state = record {
+        least = p.count.0;
+        most = p.count.1;
+        values =
+            All-from_recursion HasLowValue row p.each;
+      };
+      waiters = q;
+    })))
+    (λ s h. h.0)
+
+set-within : (bytes : List ℕ) (s : Awaited SemaphoreSet) → set_at bytes ≡ Some s → IsSetWithin s
 unfolding set_at
 set-within [] s e = absurd cc
-set-within (code ∷ []) s e = absurd cc
-set-within (code ∷ count ∷ bytes) s e =
-    counted-within count bytes s (guard_then (eqb code 5) (counted_at count bytes) s e).1
+set-within (code ∷ bytes) s e =
+    got-whole IsSetWithin set_fields_at bytes s set-fields-within
+    (guard_then (eqb code 5) (whole (set_fields_at bytes)) s e).1
 
 -- ---- a deed
 

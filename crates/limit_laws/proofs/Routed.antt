@@ -1,7 +1,7 @@
 -- The leader routes a call within limits.
-use Rattle.std.proofs.Common.{◌≡◌, Option, Some, None, Result, Err, Ok, ℕ, Bool, true, false, not, ◌&&◌, nat_eq, refl, ◌≤◌, length, ◌||◌, ap}
+use Rattle.std.proofs.Common.{◌≡◌, Option, Some, None, Result, Err, Ok, ℕ, Bool, true, false, not, ◌&&◌, nat_eq, refl, ◌≤◌, length, ◌||◌}
 use Rattle.std.specs.Prelude.{nat_le}
-use Rattle.frame_bytes.specs.Limits.{is_frame}
+use Rattle.frame_bytes.specs.Limits.{is_frame, is_nonzero}
 use Rattle.kernel_laws.proofs.Plain.{by_test, Of, of-map, of-some}
 use Rattle.kernel_laws.specs.Sets.{IsSetWithinLimits}
 use Rattle.kernel_model.specs.Queue.{empty_queue}
@@ -10,17 +10,19 @@ use Rattle.kernel_model.specs.SemaphoreSet.{SemaphoreSet, new_set}
 use Rattle.key_table.specs.KeyMap.{key_answer}
 use Rattle.key_table.specs.declared.KeyAnswer.TheVariants as answers
 use Rattle.key_table.specs.declared.KeyAnswer.{KeyAnswer}
-use Rattle.limit_laws.proofs.Frames.{forwarded-has-ticket, recall-is-frame}
+use Rattle.limit_laws.proofs.Frames.{cancelled-has-ticket, cancelled-is-held, forwarded-has-ticket, forwarded-is-held, recall-is-frame}
 use Rattle.kernel_laws.proofs.QueueLaws.{queue-within-rule}
 use Rattle.kernel_laws.proofs.SetLaws.{set-within-rule}
-use Rattle.limit_laws.proofs.Named.{deeds-put}
+use Rattle.limit_laws.proofs.Named.{deeds-get, deeds-put, without-caller-within}
 use Rattle.limit_laws.proofs.NewNames.{IsTakenWithin, take-number-within}
 use Rattle.limit_laws.proofs.Replies.{fail-is-short, num-is-short}
-use Rattle.limit_laws.proofs.Steps.{tables-within, leader-within, with-node-within, with-directory-step, send-within, carry-out-within, placed-within, recalled-within, hold-within, known-has-number, serve-asked-within, serve-nobody-within}
-use Rattle.limit_laws.specs.Within.{IsDeedWithin, IsReplyShort, IsItemWithin, IsDirectoryWithin, IsNodeWithin, IsStepWithin}
+use Rattle.limit_laws.proofs.Steps.{IsCalledOn, at-name, at-removal, tables-within, leader-within, with-node-within, with-deeds-within, with-directory-step, send-within, carry-out-within, placed-within, recalled-within, hold-within, known-has-number, serve-asked-within, serve-nobody-within}
+use Rattle.limit_laws.proofs.Waking.{unawaited-within}
+use Rattle.limit_laws.specs.Within.{CanGoOn, IsDeedWithin, IsReplyShort, IsItemWithin, IsDirectoryWithin, IsNodeWithin, IsStepWithin}
 use Rattle.node_model.specs.Bodies.{Body, AQueue, ASet}
 use Rattle.node_model.specs.Directory.{Directory, Place, Coming, place_of, place_name, route, recall, hold, maker, maker_stays, route_by as place_route, route_by_maker, At}
 use Rattle.node_model.specs.Kinds.{number_of, get_named, put_named}
+use Rattle.node_model.specs.Serving.{Withdrawn, Leaves, NotThere, NotHeld, body_without, has_waiter, withdraw, withdraw_in}
 use Rattle.node_model.specs.declared.held.Held.TheVariants.{Request}
 use Rattle.node_model.specs.declared.held.Held.{Held}
 use Rattle.node_model.specs.declared.route.Route.TheVariants as routes
@@ -34,20 +36,21 @@ use Rattle.pico_base.specs.declared.call.Home.{Home}
 use Rattle.pico_base.specs.declared.numbers.Kind.TheVariants as kinds
 use Rattle.pico_base.specs.declared.numbers.Name.TheVariants.{Proc, Msg, Sem}
 use Rattle.pico_base.specs.declared.numbers.Name.{Name}
-use Rattle.pico_base.specs.declared.reply.Errno.TheVariants.{Einval}
+use Rattle.pico_base.specs.declared.reply.Errno.TheVariants.{Einval, Eintr}
 use Rattle.pico_base.specs.declared.reply.Errno.{Errno}
 use Rattle.pico_base.specs.declared.reply.Reply.TheVariants as replies
 use Rattle.pico_base.specs.declared.reply.Reply.{Reply}
 use Rattle.pico_base.specs.declared.script.Script.{Script}
 use Rattle.rpc_frame.specs.declared.asked.Asked.{Asked}
 use Rattle.rpc_frame.specs.declared.frame.Frame.TheVariants as frames
-use Rattle.world_model.specs.Calls.{is_for_others}
+use Rattle.waiting_model.specs.Calls.{withdrawn_from}
+use Rattle.waiting_model.specs.Waiters.{unawaited}
 use Rattle.world_model.specs.Node.{Node, Leader}
 use Rattle.world_model.specs.Numbers.{Taken, take_number}
 use Rattle.world_model.specs.Keys.{find_set, bind, create_set, get_queue, get_set, make_set, get_by_key, make_bound, make_queue, without_key}
-use Rattle.world_model.specs.Routes.{route_by, recall_from, route_call, was_removed, hold_item, forward, recall_and_hold, remove_by, remove_here, route_home, unbind_name, keys_after}
-use Rattle.world_model.specs.Serving.{serve_asked}
-use Rattle.world_model.specs.Step.{Step, with_directory, with_node, carry_out, with_leader}
+use Rattle.world_model.specs.Routes.{cancel, cancel_by, route_cancel, route_held, route_held_by, route_by, recall_from, route_call, was_removed, hold_item, forward, recall_and_hold, remove_by, remove_here, route_home, unbind_name, keys_after}
+use Rattle.world_model.specs.Serving.{interrupted, serve_asked, withdraw_by, withdraw_here}
+use Rattle.world_model.specs.Step.{Step, with_deeds, with_directory, with_node, carry_out, with_leader}
 
 -- where a call goes by a name's place, the name has a number
 abbrev IsRouteWithin : Name → Route → Type 0
@@ -89,16 +92,17 @@ module _ (script : Script) (sound : IsSoundScript script) where
   make-queue-within : (s : Step) (asked : Asked) (key : ℕ) (t : Taken) → StepIs s → CanRoute asked
       → IsTakenWithin script s.node t → StepIs (make_queue script s asked key t)
   make-queue-within s asked key t k can taken =
-      make-bound-within (with_node s t.node) asked (Msg t.number) (AQueue empty_queue) t.number
+      make-bound-within (with_node s t.node) asked (Msg t.number) (AQueue (unawaited empty_queue)) t.number
       (record t.node.leader { queue_keys = bind t.node.leader.queue_keys key t.number 0 })
-      (with-node-within script sound s t.node k taken.node) can taken.node.directory (taken.low, queue-within-rule.new)
+      (with-node-within script sound s t.node k taken.node) can taken.node.directory
+      (taken.low, unawaited-within queue-within-rule.new)
 
   make-set-within : (s : Step) (asked : Asked) (key : ℕ) (set : SemaphoreSet) (t : Taken) → StepIs s → CanRoute asked
       → IsSetWithinLimits set → IsTakenWithin script s.node t → StepIs (make_set script s asked key set t)
   make-set-within s asked key set t k can fits taken =
-      make-bound-within (with_node s t.node) asked (Sem t.number) (ASet set) t.number
+      make-bound-within (with_node s t.node) asked (Sem t.number) (ASet (unawaited set)) t.number
       (record t.node.leader { set_keys = bind t.node.leader.set_keys key t.number (length set.semaphores) })
-      (with-node-within script sound s t.node k taken.node) can taken.node.directory (taken.low, fits)
+      (with-node-within script sound s t.node k taken.node) can taken.node.directory (taken.low, unawaited-within fits)
 
   reply-within : (s : Step) (asked : Asked) (reply : Reply) → StepIs s → CanRoute asked → IsReplyShort reply
       → StepIs (carry_out script s asked reply)
@@ -218,46 +222,43 @@ module _ (script : Script) (sound : IsSoundScript script) where
       place-route d name (place_of d name) (maker_stays d (maker d name)) (maker d name) k refl
 
   route-by-within : (s : Step) (name : Name) (asked : Asked) (r : Route) → StepIs s → CanRoute asked
-      → is_for_others (home_of asked.pid asked.call) ≡ true → IsRouteWithin name r
-      → Of StepIs (route_by script s name asked r)
-  route-by-within s name asked (routes.At node) k can others at =
+      → IsCalledOn name asked → IsRouteWithin name r → Of StepIs (route_by script s name asked r)
+  route-by-within s name asked (routes.At node) k can on at =
       by_test (Of StepIs) (nat_eq node s.node.number) (serve_asked script s name asked)
       (Some (forward s node asked))
-      (λ _. serve-asked-within script sound s name asked k (forwarded-has-ticket asked can) others at)
+      (λ _. serve-asked-within script sound s name asked k (forwarded-has-ticket asked can) on at)
       (λ _. forward-within s node asked k can)
-  route-by-within s name asked routes.Coming k can others at = hold-item-within s name (Request asked) k can
-  route-by-within s name asked (routes.Range node) k can others at = forward-within s node asked k can
-  route-by-within s name asked routes.Nobody k can others at =
+  route-by-within s name asked routes.Coming k can on at =
+      hold-item-within s name (Request asked) k (forwarded-is-held asked can)
+  route-by-within s name asked (routes.Range node) k can on at = forward-within s node asked k can
+  route-by-within s name asked routes.Nobody k can on at =
       serve-nobody-within script sound s name asked k (forwarded-has-ticket asked can)
 
   remove-by-within : (s : Step) (name : Name) (asked : Asked) (r : Route) → StepIs s → CanRoute asked
-      → is_for_others (home_of asked.pid asked.call) ≡ true → IsRouteWithin name r
-      → Of StepIs (remove_by script s name asked r)
-  remove-by-within s name asked (routes.At node) k can others at =
+      → IsCalledOn name asked → IsRouteWithin name r → Of StepIs (remove_by script s name asked r)
+  remove-by-within s name asked (routes.At node) k can on at =
       by_test (Of StepIs) (nat_eq node s.node.number) (remove_here script s name asked)
       (Some (recall_and_hold s name (Request asked) node))
       (λ _. of-map StepIs (serve_asked script s name asked)
       (unbind_name (was_removed (get_named s.node.deeds name)) name)
       (λ next is. unbind-name-within (was_removed (get_named s.node.deeds name)) name next
       (of-some StepIs (serve_asked script s name asked) next
-      (serve-asked-within script sound s name asked k (forwarded-has-ticket asked can) others at) is)))
-      (λ _. recall-and-hold-within s name (Request asked) node k at can)
-  remove-by-within s name asked routes.Coming k can others at =
-      route-by-within s name asked routes.Coming k can others at
-  remove-by-within s name asked (routes.Range node) k can others at =
-      route-by-within s name asked (routes.Range node) k can others at
-  remove-by-within s name asked routes.Nobody k can others at =
-      route-by-within s name asked routes.Nobody k can others at
+      (serve-asked-within script sound s name asked k (forwarded-has-ticket asked can) on at) is)))
+      (λ _. recall-and-hold-within s name (Request asked) node k at (forwarded-is-held asked can))
+  remove-by-within s name asked routes.Coming k can on at = route-by-within s name asked routes.Coming k can on at
+  remove-by-within s name asked (routes.Range node) k can on at =
+      route-by-within s name asked (routes.Range node) k can on at
+  remove-by-within s name asked routes.Nobody k can on at = route-by-within s name asked routes.Nobody k can on at
 
   route-home-within : (s : Step) (asked : Asked) (home : Home) → home_of asked.pid asked.call ≡ home → StepIs s
       → CanRoute asked → Of StepIs (route_home script s asked home)
   route-home-within s asked homes.Own is k can = tt
   route-home-within s asked homes.Keys is k can = get-by-key-within s asked asked.call k can
   route-home-within s asked (homes.At name) is k can =
-      route-by-within s name asked (route s.node.leader.directory name) k can (ap is_for_others is)
+      route-by-within s name asked (route s.node.leader.directory name) k can (at-name asked name is)
       (route-within s.node.leader.directory name k.node.directory)
   route-home-within s asked (homes.Removal name) is k can =
-      remove-by-within s name asked (route s.node.leader.directory name) k can (ap is_for_others is)
+      remove-by-within s name asked (route s.node.leader.directory name) k can (at-removal asked name is)
       (route-within s.node.leader.directory name k.node.directory)
   route-home-within s asked homes.Parent is k can = tt
 
@@ -265,3 +266,77 @@ module _ (script : Script) (sound : IsSoundScript script) where
   pub route-call-within : (s : Step) (asked : Asked) → StepIs s → CanRoute asked
       → Of StepIs (route_call script s asked)
   route-call-within s asked k can = route-home-within s asked (home_of asked.pid asked.call) refl k can
+
+  -- ---- the ends of waits
+
+  -- the end of a wait that can be sent on
+  abbrev CanCancel : Asked → Type 0
+  CanCancel asked = is_frame (frames.Cancel asked) ≡ true
+
+  -- it is sent on
+  pub cancel-within : (s : Step) (to : ℕ) (asked : Asked) → StepIs s → CanCancel asked → StepIs (cancel s to asked)
+  cancel-within s to asked k can = send-within script sound s to (frames.Cancel asked) k can tt
+
+  -- who waited doesn't wait any more
+  pub interrupted-within : (s : Step) (name : Name) (asked : Asked) (body : Body) → StepIs s
+      → is_nonzero asked.ticket ≡ true → IsDeedWithin s.node.pid s.node.caller.line name body
+      → StepIs (interrupted script s name asked body)
+  interrupted-within s name asked body k ticket deed =
+      let n : Node = s.node
+      in carry-out-within script sound (with_deeds s (put_named n.deeds name body)) asked (replies.Fail Eintr)
+      (with-deeds-within script sound s (put_named n.deeds name body) k
+      (deeds-put n.pid n.caller.line n.deeds name body k.node.deeds deed)) ticket (λ _. fail-is-short Eintr)
+
+  -- what a withdrawal leaves of a deed that is held
+  abbrev pub LeavesWithin : Step → Name → Withdrawn → Type 0
+  LeavesWithin s name (Leaves body) = IsDeedWithin s.node.pid s.node.caller.line name body
+  LeavesWithin s name NotThere = Unit {0}
+  LeavesWithin s name NotHeld = Unit {0}
+
+  left-within : (s : Step) (name : Name) (pid ticket : ℕ) (o : Option Body) → StepIs s
+      → get_named s.node.deeds name ≡ o → LeavesWithin s name (withdraw_in pid ticket o)
+  left-within s name pid ticket None k is = tt
+  left-within s name pid ticket (Some body) k is =
+      let n : Node = s.node
+      in let deed = deeds-get n.pid n.caller.line n.deeds name body k.node.deeds is
+      in by_test (LeavesWithin s name) (has_waiter body pid ticket) (Leaves (body_without pid ticket body)) NotThere
+      (λ _. (deed.0, without-caller-within n.pid n.caller.line name body pid ticket deed.1)) (λ _. tt)
+
+  -- it is within the limits
+  pub withdrawn-within : (s : Step) (name : Name) (pid ticket : ℕ) → StepIs s
+      → LeavesWithin s name (withdraw s.node.deeds name pid ticket)
+  withdrawn-within s name pid ticket k = left-within s name pid ticket (get_named s.node.deeds name) k refl
+
+  withdraw-by-within : (s : Step) (name : Name) (asked : Asked) (w : Withdrawn) → StepIs s
+      → is_nonzero asked.ticket ≡ true → LeavesWithin s name w → StepIs (withdraw_by script s name asked w)
+  withdraw-by-within s name asked (Leaves body) k ticket deed = interrupted-within s name asked body k ticket deed
+  withdraw-by-within s name asked NotThere k ticket deed = k
+  withdraw-by-within s name asked NotHeld k ticket deed = k
+
+  cancel-by-within : (s : Step) (name : Name) (asked : Asked) (r : Route) → StepIs s → CanCancel asked
+      → withdrawn_from asked.call ≡ Some name → StepIs (cancel_by script s name asked r)
+  cancel-by-within s name asked (routes.At node) k can is =
+      by_test StepIs (nat_eq node s.node.number) (withdraw_here script s name asked) (cancel s node asked)
+      (λ _. withdraw-by-within s name asked (withdraw s.node.deeds name asked.pid asked.ticket) k
+      (cancelled-has-ticket asked can) (withdrawn-within s name asked.pid asked.ticket k))
+      (λ _. cancel-within s node asked k can)
+  cancel-by-within s name asked routes.Coming k can is =
+      hold-item-within s name (Request asked) k (cancelled-is-held asked name is can)
+  cancel-by-within s name asked (routes.Range node) k can is = cancel-within s node asked k can
+  cancel-by-within s name asked routes.Nobody k can is = k
+
+  -- The end of a wait that can be sent on goes the way of its call.
+  pub route-cancel-within : (s : Step) (name : Name) (asked : Asked) → StepIs s → CanCancel asked
+      → withdrawn_from asked.call ≡ Some name → StepIs (route_cancel script s name asked)
+  route-cancel-within s name asked k can is =
+      cancel-by-within s name asked (route s.node.leader.directory name) k can is
+
+  route-held-by : (s : Step) (asked : Asked) (o : Option Name) → StepIs s → withdrawn_from asked.call ≡ o
+      → CanGoOn asked o → Of StepIs (route_held_by script s asked o)
+  route-held-by s asked None k is can = route-call-within s asked k can
+  route-held-by s asked (Some name) k is can = route-cancel-within s name asked k can is
+
+  -- What was held is routed.
+  pub route-held-within : (s : Step) (asked : Asked) → StepIs s → IsItemWithin (Request asked)
+      → Of StepIs (route_held script s asked)
+  route-held-within s asked k can = route-held-by s asked (withdrawn_from asked.call) k refl can

@@ -1,29 +1,21 @@
 -- What a call leaves of the parts of a kernel that a node has, and its reply.
-use Rattle.std.proofs.Common.{◌≡◌, ◌++◌, Option, Some, None, Result, Err, Ok, ℕ, Bool, true, false, not, nat_eq, refl, ◌+◌, ◌≤◌, length, cond, List, [], ◌∷◌, is_some, ◌||◌, filter, arith, sym}
+use Rattle.std.proofs.Common.{◌≡◌, ◌++◌, Option, Some, None, Result, Err, Ok, ℕ, Bool, true, false, not, nat_eq, refl, ◌+◌, ◌<◌, ◌≤◌, length, cond, List, [], ◌∷◌, is_some, ◌||◌, filter, arith, sym}
 use Rattle.std.proofs.lemmas.Bool.{false≢true}
 use Rattle.std.proofs.lemmas.List.{length-append}
 use Rattle.std.specs.List.{AllByRecursion, list_any}
+use Rattle.std.specs.Prelude.{fold}
 use Rattle.kernel_laws.proofs.Plain.{Of, by_test}
-use Rattle.kernel_laws.specs.Queues.{IsQueueWithinLimits}
-use Rattle.kernel_laws.specs.Sets.{IsSetWithinLimits}
 use Rattle.kernel_laws.proofs.Lists.{all-both, all-filtered}
-use Rattle.kernel_model.specs.Effect.{Effect, reply_with, refuse, on_named, look_up}
-use Rattle.kernel_model.specs.Kernel as kernel
-use Rattle.kernel_model.specs.Kernel.{Kernel, Process, with_alive}
-use Rattle.kernel_model.specs.ProcessCalls.{parent_after_wait, processes_after_wait, with_signals, reap_child, action_effect, kill, kill_at, signal_living}
-use Rattle.kernel_model.specs.Queue.{Queue, send, Received, receive, set_qbytes}
-use Rattle.kernel_model.specs.QueueCalls.{change_queue, receive_effect, stat_effect, remove_queue, with_queue}
-use Rattle.kernel_model.specs.Row.{Found, Family, lists, Alive, raise_by_other, ended_child, Waited, NotYet, NoChild, with_child, without_ended, wait, family_after_end, others, matches, first_ended_child, wait_result, no_family}
-use Rattle.kernel_model.specs.SemaphoreSet.{SemaphoreSet, op, value_at, last_at, waiting_at, set_value, set_all}
-use Rattle.kernel_model.specs.SetCalls.{change_set, all_values, remove_set, with_set}
+use Rattle.kernel_model.specs.Queue.{Queue}
+use Rattle.kernel_model.specs.Row.{Found, Family, lists, ended_child, Waited, NotYet, NoChild, with_child, without_ended, wait, family_after_end, others, matches, first_ended_child, wait_result, no_family}
+use Rattle.kernel_model.specs.SemaphoreSet.{SemaphoreSet}
 use Rattle.kernel_model.specs.Signals.{Signals, raise, act_on}
-use Rattle.kernel_model.specs.Transition.{effect}
-use Rattle.kernel_model.specs.Waiting.{may_wait}
-use Rattle.kernel_laws.proofs.QueueLaws.{queue-within-rule}
-use Rattle.kernel_laws.proofs.SetLaws.{set-within-rule}
+use Rattle.limit_laws.proofs.Replies.{num-is-short}
 use Rattle.limit_laws.proofs.Tables.{all-get, all-put, all-without}
-use Rattle.limit_laws.specs.Bodies.{IsFamilyWithin, IsPersonWithin, IsKernelWithin}
-use Rattle.node_model.specs.Carrying.{is_own_home}
+use Rattle.limit_laws.proofs.Waking.{IsQueueCarried, IsSetCarried, queue-carried-within, removed-wakes-within, set-carried-within}
+use Rattle.limit_laws.specs.Bodies.{IsFamilyWithin, IsPersonWithin, IsKernelWithin, IsQueueWithin, IsSetWithin}
+use Rattle.limit_laws.specs.Within.{IsReplyShort, IsWakeWithin}
+use Rattle.node_model.specs.Carrying.{is_own_home, is_removal}
 use Rattle.node_model.specs.Serving.{name_for, makes_something}
 use Rattle.number_maps.specs.Maps.{Numbered, get, put}
 use Rattle.pico_base.specs.Home.{home_of}
@@ -36,6 +28,20 @@ use Rattle.pico_base.specs.declared.reply.Reply.TheVariants as replies
 use Rattle.pico_base.specs.declared.reply.Reply.{Reply}
 use Rattle.pico_base.specs.declared.signal.SigArg.TheVariants.{Zero, Is, Bad}
 use Rattle.pico_base.specs.declared.signal.SigArg.{SigArg}
+use Rattle.waiter_fields.specs.Waiters.{max_waiters}
+use Rattle.waiting_model.specs.Effect.{Effect, on_named, refuse, reply_with, waking}
+use Rattle.waiting_model.specs.Kernel as kernel
+use Rattle.waiting_model.specs.Kernel.{Kernel, Process, change_if, change_living, wake_all, wake_one, where_living, with_alive}
+use Rattle.waiting_model.specs.Marks.{Alive, after_reply, raise_by_other}
+use Rattle.waiting_model.specs.ProcessCalls.{action_effect, kill, kill_at, parent_after_wait, processes_after_wait, reap_child, signal_living, with_signals}
+use Rattle.waiting_model.specs.Queue.{carry_out_on_queue}
+use Rattle.waiting_model.specs.QueueCalls.{on_queue, queue_effect, remove_queue, with_queue}
+use Rattle.waiting_model.specs.SemaphoreSet.{carry_out_on_set}
+use Rattle.waiting_model.specs.SetCalls.{on_set, remove_set, set_effect, with_set}
+use Rattle.waiting_model.specs.Transition.{effect, effect_by}
+use Rattle.waiting_model.specs.Waiters.{Awaited}
+use Rattle.waiting_model.specs.declared.callers.Wake.{Wake}
+use Rattle.waiting_model.specs.declared.callers.Waiting.{Waiting}
 
 -- ---- families
 
@@ -61,7 +67,8 @@ child-within most child f low within =
       ended = within.ended;
     }
 
-filtered-is-short : {A : Type 0} (test : A → Bool) (xs : List A) → length (filter test xs) ≤ length xs
+-- a filter leaves no more
+pub filtered-is-short : {A : Type 0} (test : A → Bool) (xs : List A) → length (filter test xs) ≤ length xs
 filtered-is-short test [] = omega arith
 filtered-is-short test (x ∷ xs) = by (test x) (filtered-is-short test xs)
   where
@@ -71,7 +78,7 @@ filtered-is-short test (x ∷ xs) = by (test x) (filtered-is-short test xs)
     by false short = omega (arith, short)
 
 -- an ended child less
-reaped-within : (most child : ℕ) (f : Family) → IsFamilyWithin most f → IsFamilyWithin most (without_ended child f)
+pub reaped-within : (most child : ℕ) (f : Family) → IsFamilyWithin most f → IsFamilyWithin most (without_ended child f)
 reaped-within most child f within =
     let few = within.few
     in let short = filtered-is-short (λ (e : EndedChild). not (nat_eq child e.pid)) f.ended
@@ -82,19 +89,21 @@ reaped-within most child f within =
     }
 
 -- one that is found has a number
-abbrev IsFoundWithin : Waited → Type 0
+abbrev pub IsFoundWithin : Waited → Type 0
 IsFoundWithin (Found child ending) = 1 ≤ child
 IsFoundWithin NotYet = Unit {0}
 IsFoundWithin NoChild = Unit {0}
 
-first-ended-within : (which : Option ℕ) (es : List EndedChild) → AllByRecursion (λ (e : EndedChild). 1 ≤ e.pid) es
+-- the first child that has ended has a number
+pub first-ended-within : (which : Option ℕ) (es : List EndedChild) → AllByRecursion (λ (e : EndedChild). 1 ≤ e.pid) es
     → Of (λ (e : EndedChild). 1 ≤ e.pid) (first_ended_child which es)
 first-ended-within which [] all = tt
 first-ended-within which (e ∷ es) all =
     by_test (Of (λ (x : EndedChild). 1 ≤ x.pid)) (matches which e.pid) (Some e) (first_ended_child which es)
     (λ _. all.0) (λ _. first-ended-within which es all.1)
 
-found-within : (o : Option EndedChild) (living : Bool) → Of (λ (e : EndedChild). 1 ≤ e.pid) o
+-- so has one that is found for a parent
+pub found-within : (o : Option EndedChild) (living : Bool) → Of (λ (e : EndedChild). 1 ≤ e.pid) o
     → IsFoundWithin (wait_result o living)
 found-within (Some e) living h = h
 found-within None true h = tt
@@ -138,14 +147,25 @@ family-ended-within most child f ending false low listed within =
 -- ---- an effect
 
 -- a child that is replied has a number
-abbrev pub IsChildNumbered : Reply → Type 0
-IsChildNumbered (replies.Child child ending) = 1 ≤ child
-IsChildNumbered reply = Unit {0}
+abbrev pub IsChildNumbered : Option Reply → Type 0
+IsChildNumbered (Some (replies.Child child ending)) = 1 ≤ child
+IsChildNumbered own = Unit {0}
 
--- the kernel is within the limits, and so is the child that is replied
+-- a short reply is no child's end
+short-is-no-child : (own : Option Reply) → Of IsReplyShort own → IsChildNumbered own
+short-is-no-child (Some (replies.Child child ending)) short = absurd (false≢true short.within)
+short-is-no-child own short = tt
+
+-- the kernel is within the limits, and so are the child that is replied and the replies of those who are woken
 pub record IsEffectWithin (own most : ℕ) (e : Effect) : Type 0 where
   pub kernel : IsKernelWithin own most e.kernel
-  pub child : IsChildNumbered e.reply
+  pub child : IsChildNumbered e.own
+  pub wakes : AllByRecursion IsWakeWithin e.wakes
+
+-- there is room for one more who waits
+pub record HasRooms (k : Kernel) : Type 0 where
+  pub queues : AllByRecursion (λ (e : ℕ × Awaited Queue). length e.1.waiters < max_waiters) k.queues
+  pub sets : AllByRecursion (λ (e : ℕ × Awaited SemaphoreSet). length e.1.waiters < max_waiters) k.sets
 
 module _ (own most : ℕ) where
   abbrev Within : Effect → Type 0
@@ -154,8 +174,10 @@ module _ (own most : ℕ) where
   abbrev Holds : Kernel → Type 0
   Holds k = IsKernelWithin own most k
 
-  with-processes : (k : Kernel) (ps : Numbered Process) → Holds k → AllByRecursion (IsPersonWithin own most) ps
-      → Holds (record k { processes = ps })
+  abbrev People : Numbered Process → Type 0
+  People ps = AllByRecursion (IsPersonWithin own most) ps
+
+  with-processes : (k : Kernel) (ps : Numbered Process) → Holds k → People ps → Holds (record k { processes = ps })
   with-processes k ps h all = record { processes = all; queues = h.queues; sets = h.sets }
 
   alive-within : (k : Kernel) (pid : ℕ) (a : Alive) → Holds k → pid ≡ own → IsFamilyWithin most a.row.family
@@ -165,19 +187,44 @@ module _ (own most : ℕ) where
       (all-put (IsPersonWithin own most) k.processes pid (kernel.Living a) (own_is, family) h.processes)
 
   num-within : (k : Kernel) (n : ℕ) → Holds k → Within (reply_with k n)
-  num-within k n h = record { kernel = h; child = tt }
+  num-within k n h = record { kernel = h; child = tt; wakes = tt }
 
   fail-within : (k : Kernel) (e : Errno) → Holds k → Within (refuse k e)
-  fail-within k e h = record { kernel = h; child = tt }
-
-  look-within : (k : Kernel) (r : Result ℕ Errno) → Holds k → Within (look_up k r)
-  look-within k (Ok n) h = num-within k n h
-  look-within k (Err e) h = fail-within k e h
+  fail-within k e h = record { kernel = h; child = tt; wakes = tt }
 
   named-within : {V : Type 0} (k : Kernel) (o : Option V) (f : V → Effect) → Holds k
       → ((v : V) → o ≡ Some v → Within (f v)) → Within (on_named k o f)
   named-within k None f h g = fail-within k _ h
   named-within k (Some v) f h g = g v refl
+
+  -- ---- those who are woken
+
+  woken-person : (pid : ℕ) (p : Process) → IsPersonWithin own most (pid, p)
+      → IsPersonWithin own most (pid, where_living after_reply p)
+  woken-person pid (kernel.Living a) h = h
+  woken-person pid (kernel.Ended ending) h = tt
+  woken-person pid kernel.Gone h = tt
+
+  one-woken : (pid : ℕ) (ps : Numbered Process) → People ps → People (change_living ps pid after_reply)
+  one-woken pid [] all = tt
+  one-woken pid (p ∷ ps) all = (
+    by_test (λ (x : Process). IsPersonWithin own most (p.0, x)) (nat_eq pid p.0) (where_living after_reply p.1) p.1
+        (λ _. woken-person p.0 p.1 all.0) (λ _. all.0),
+    one-woken pid ps all.1,
+  )
+
+  all-woken : (wakes : List Wake) (ps : Numbered Process) → People ps → People (fold wake_one ps wakes)
+  all-woken [] ps all = all
+  all-woken (w ∷ wakes) ps all = all-woken wakes (wake_one ps w) (one-woken w.pid ps all)
+
+  waking-within : (k : Kernel) (reply : Option Reply) (wakes : List Wake) → Holds k → Of IsReplyShort reply
+      → AllByRecursion IsWakeWithin wakes → Within (waking k reply wakes)
+  waking-within k reply wakes h short all =
+      record {
+        kernel = with-processes k (fold wake_one k.processes wakes) h (all-woken wakes k.processes h.processes);
+        child = short-is-no-child reply short;
+        wakes = all;
+      }
 
   -- ---- processes
 
@@ -213,9 +260,9 @@ module _ (own most : ℕ) where
   action-within k pid a (Ok s) h own_is family = num-within _ 0 (alive-within k pid _ h own_is family)
   action-within k pid a (Err e) h own_is family = fail-within k e h
 
-  reap-within : (k : Kernel) (pid : ℕ) (a : Alive) (w : Waited) → Holds k → pid ≡ own
-      → IsFamilyWithin most a.row.family → IsFoundWithin w → Within (reap_child k pid a w)
-  reap-within k pid a (Found child ending) h own_is family found =
+  reap-within : (k : Kernel) (pid : ℕ) (a : Alive) (nohang : Bool) (w : Waited) → Holds k → pid ≡ own
+      → IsFamilyWithin most a.row.family → IsFoundWithin w → Within (reap_child k pid a nohang w)
+  reap-within k pid a nohang (Found child ending) h own_is family found =
       record {
         kernel =
             with-processes k (processes_after_wait k.processes pid a child) h
@@ -224,137 +271,136 @@ module _ (own most : ℕ) where
             (all-put (IsPersonWithin own most) k.processes pid (kernel.Living (parent_after_wait a child))
             (own_is, reaped-within most child a.row.family family) h.processes));
         child = found;
+        wakes = tt;
       }
-  reap-within k pid a NotYet h own_is family found = num-within k 0 h
-  reap-within k pid a NoChild h own_is family found = fail-within k _ h
+  reap-within k pid a true NotYet h own_is family found = num-within k 0 h
+  reap-within k pid a false NotYet h own_is family found = record { kernel = h; child = tt; wakes = tt }
+  reap-within k pid a nohang NoChild h own_is family found = fail-within k _ h
 
   -- ---- queues and sets
 
-  queue-is : (k : Kernel) (id : ℕ) (q : Queue) → Holds k → get k.queues id ≡ Some q → IsQueueWithinLimits q
-  queue-is k id q h is = all-get (λ (e : ℕ × Queue). IsQueueWithinLimits e.1) k.queues id q h.queues is
+  queue-is : (k : Kernel) (id : ℕ) (q : Awaited Queue) → Holds k → get k.queues id ≡ Some q → IsQueueWithin q
+  queue-is k id q h is = all-get (λ (e : ℕ × Awaited Queue). IsQueueWithin e.1) k.queues id q h.queues is
 
-  set-is : (k : Kernel) (id : ℕ) (s : SemaphoreSet) → Holds k → get k.sets id ≡ Some s → IsSetWithinLimits s
-  set-is k id s h is = all-get (λ (e : ℕ × SemaphoreSet). IsSetWithinLimits e.1) k.sets id s h.sets is
+  set-is : (k : Kernel) (id : ℕ) (s : Awaited SemaphoreSet) → Holds k → get k.sets id ≡ Some s → IsSetWithin s
+  set-is k id s h is = all-get (λ (e : ℕ × Awaited SemaphoreSet). IsSetWithin e.1) k.sets id s h.sets is
 
-  put-queue-within : (k : Kernel) (id : ℕ) (q : Queue) → Holds k → IsQueueWithinLimits q → Holds (with_queue k id q)
+  put-queue-within : (k : Kernel) (id : ℕ) (q : Awaited Queue) → Holds k → IsQueueWithin q → Holds (with_queue k id q)
   put-queue-within k id q h own_is =
       record {
         processes = h.processes;
-        queues = all-put (λ (e : ℕ × Queue). IsQueueWithinLimits e.1) k.queues id q own_is h.queues;
+        queues = all-put (λ (e : ℕ × Awaited Queue). IsQueueWithin e.1) k.queues id q own_is h.queues;
         sets = h.sets;
       }
 
-  put-set-within : (k : Kernel) (id : ℕ) (s : SemaphoreSet) → Holds k → IsSetWithinLimits s → Holds (with_set k id s)
+  put-set-within : (k : Kernel) (id : ℕ) (s : Awaited SemaphoreSet) → Holds k → IsSetWithin s
+      → Holds (with_set k id s)
   put-set-within k id s h own_is =
       record {
         processes = h.processes;
         queues = h.queues;
-        sets = all-put (λ (e : ℕ × SemaphoreSet). IsSetWithinLimits e.1) k.sets id s own_is h.sets;
+        sets = all-put (λ (e : ℕ × Awaited SemaphoreSet). IsSetWithin e.1) k.sets id s own_is h.sets;
       }
 
-  change-queue-within : (k : Kernel) (id : ℕ) (r : Result Queue Errno) → Holds k
-      → ((q : Queue) → r ≡ Ok q → IsQueueWithinLimits q) → Within (change_queue k id r)
-  change-queue-within k id (Ok q) h own_is = num-within _ 0 (put-queue-within k id q h (own_is q refl))
-  change-queue-within k id (Err e) h own_is = fail-within k e h
+  on-queue-within : (k : Kernel) (id : ℕ) (who : Waiting) → Holds k → HasRooms k → 1 ≤ who.ticket
+      → Within (on_queue k id who)
+  on-queue-within k id who h rooms ticket =
+      named-within k (get k.queues id) (λ q. queue_effect k id (carry_out_on_queue q who)) h
+      (λ q is.
+      let c : IsQueueCarried (carry_out_on_queue q who) =
+      queue-carried-within q who (queue-is k id q h is) ticket
+      (all-get (λ (e : ℕ × Awaited Queue). length e.1.waiters < max_waiters) k.queues id q rooms.queues is)
+      in waking-within (with_queue k id (carry_out_on_queue q who).object) (carry_out_on_queue q who).own
+      (carry_out_on_queue q who).wakes
+      (put-queue-within k id (carry_out_on_queue q who).object h c.object) c.own c.wakes)
 
-  change-set-within : (k : Kernel) (id : ℕ) (r : Result SemaphoreSet Errno) → Holds k
-      → ((s : SemaphoreSet) → r ≡ Ok s → IsSetWithinLimits s) → Within (change_set k id r)
-  change-set-within k id (Ok s) h own_is = num-within _ 0 (put-set-within k id s h (own_is s refl))
-  change-set-within k id (Err e) h own_is = fail-within k e h
+  on-set-within : (k : Kernel) (id : ℕ) (who : Waiting) → Holds k → HasRooms k → 1 ≤ who.ticket
+      → Within (on_set k id who)
+  on-set-within k id who h rooms ticket =
+      named-within k (get k.sets id) (λ s. set_effect k id (carry_out_on_set s who)) h
+      (λ s is.
+      let c : IsSetCarried (carry_out_on_set s who) =
+      set-carried-within s who (set-is k id s h is) ticket
+      (all-get (λ (e : ℕ × Awaited SemaphoreSet). length e.1.waiters < max_waiters) k.sets id s rooms.sets is)
+      in waking-within (with_set k id (carry_out_on_set s who).object) (carry_out_on_set s who).own
+      (carry_out_on_set s who).wakes
+      (put-set-within k id (carry_out_on_set s who).object h c.object) c.own c.wakes)
 
-  receive-effect-within : (k : Kernel) (id : ℕ) (r : Result Received Errno) → Holds k
-      → ((x : Received) → r ≡ Ok x → IsQueueWithinLimits x.queue) → Within (receive_effect k id r)
-  receive-effect-within k id (Ok x) h own_is =
-      record { kernel = put-queue-within k id x.queue h (own_is x refl); child = tt }
-  receive-effect-within k id (Err e) h own_is = fail-within k e h
-
-  remove-queue-within : (k : Kernel) (id : ℕ) → Holds k → Within (remove_queue k id)
-  remove-queue-within k id h =
-      num-within _ 0
+  remove-queue-within : (k : Kernel) (id : ℕ) (q : Awaited Queue) → Holds k → IsQueueWithin q
+      → Within (remove_queue k id q)
+  remove-queue-within k id q h it =
+      waking-within _ (Some (replies.Num 0)) _
       (record {
         processes = h.processes;
-        queues = all-without (λ (e : ℕ × Queue). IsQueueWithinLimits e.1) k.queues id h.queues;
+        queues = all-without (λ (e : ℕ × Awaited Queue). IsQueueWithin e.1) k.queues id h.queues;
         sets = h.sets;
       })
+      (num-is-short 0) (removed-wakes-within q it.waiters)
 
-  remove-set-within : (k : Kernel) (id : ℕ) → Holds k → Within (remove_set k id)
-  remove-set-within k id h =
-      num-within _ 0
+  remove-set-within : (k : Kernel) (id : ℕ) (s : Awaited SemaphoreSet) → Holds k → IsSetWithin s
+      → Within (remove_set k id s)
+  remove-set-within k id s h it =
+      waking-within _ (Some (replies.Num 0)) _
       (record {
         processes = h.processes;
         queues = h.queues;
-        sets = all-without (λ (e : ℕ × SemaphoreSet). IsSetWithinLimits e.1) k.sets id h.sets;
+        sets = all-without (λ (e : ℕ × Awaited SemaphoreSet). IsSetWithin e.1) k.sets id h.sets;
       })
+      (num-is-short 0) (removed-wakes-within s it.waiters)
 
   -- ---- the calls that are served
 
-  -- A call on a name leaves a kernel within the limits. A call that its process carries out on itself is of the
-  -- node's own process.
-  pub effect-within : (k : Kernel) (pid : ℕ) (a : Alive) (call : Call) → Holds k → IsFamilyWithin most a.row.family
-      → makes_something call ≡ false → is_some (name_for pid call) ≡ true
-      → (is_own_home (home_of pid call) ≡ true → pid ≡ own) → Of Within (effect k pid a call 0)
-  effect-within k pid a (calls.Fork block) h family makes named own_is = absurd (false≢true (sym makes))
-  effect-within k pid a (calls.Exit status) h family makes named own_is = absurd (false≢true named)
-  effect-within k pid a (calls.Killed sig) h family makes named own_is = absurd (false≢true named)
-  effect-within k pid a calls.GetPid h family makes named own_is = num-within k pid h
-  effect-within k pid a (calls.Kill target sig) h family makes named own_is = kill-within k pid target sig h
-  effect-within k pid a (calls.SigAction sig act) h family makes named own_is =
-      action-within k pid a (act_on a.row.signals sig act) h (own_is refl) family
-  effect-within k pid a (calls.SigProcMask how set) h family makes named own_is =
-      record { kernel = alive-within k pid _ h (own_is refl) family; child = tt }
-  effect-within k pid a calls.SigPending h family makes named own_is = record { kernel = h; child = tt }
-  effect-within k pid a (calls.Handled sig) h family makes named own_is = num-within k _ h
-  effect-within k pid a (calls.WaitPid child true) h family makes named own_is =
-      reap-within k pid a (wait a.row.family child) h (own_is refl) family
-      (found-within (first_ended_child child a.row.family.ended) (list_any (matches child) a.row.family.living)
-      (first-ended-within child a.row.family.ended family.ended))
-  effect-within k pid a (calls.WaitPid child false) h family makes named own_is = tt
-  effect-within k pid a (calls.MsgGet key create excl) h family makes named own_is =
-      absurd (false≢true (sym makes))
-  effect-within k pid a (calls.MsgSnd id class text true) h family makes named own_is =
-      named-within k (get k.queues id) (λ q. change_queue k id (send q pid class text)) h
-      (λ q is. change-queue-within k id (send q pid class text) h
-      (λ next sent. queue-within-rule.sent q pid class text next (queue-is k id q h is) sent))
-  effect-within k pid a (calls.MsgSnd id class text false) h family makes named own_is = tt
-  effect-within k pid a (calls.MsgRcv id class size noerror true) h family makes named own_is =
-      named-within k (get k.queues id) (λ q. receive_effect k id (receive q pid class size noerror)) h
-      (λ q is. receive-effect-within k id (receive q pid class size noerror) h
-      (λ r taken. queue-within-rule.taken_from q pid class size noerror r (queue-is k id q h is) taken))
-  effect-within k pid a (calls.MsgRcv id class size noerror false) h family makes named own_is = tt
-  effect-within k pid a (calls.MsgStat id) h family makes named own_is =
-      named-within k (get k.queues id) (stat_effect k) h (λ q is. record { kernel = h; child = tt })
-  effect-within k pid a (calls.MsgSet id qbytes) h family makes named own_is =
-      named-within k (get k.queues id) (λ q. change_queue k id (set_qbytes q qbytes)) h
-      (λ q is. change-queue-within k id (set_qbytes q qbytes) h
-      (λ next limited. queue-within-rule.limited q qbytes next (queue-is k id q h is) limited))
-  effect-within k pid a (calls.MsgRmid id) h family makes named own_is =
-      named-within k (get k.queues id) (λ _. remove_queue k id) h (λ q is. remove-queue-within k id h)
-  effect-within k pid a (calls.SemGet key count create excl) h family makes named own_is =
-      absurd (false≢true (sym makes))
-  effect-within k pid a (calls.SemOp id steps) h family makes named own_is =
-      by_test (Of Within) (list_any may_wait steps) None
-      (Some (on_named k (get k.sets id) (λ set. change_set k id (op set pid steps)))) (λ _. tt)
-      (λ _. named-within k (get k.sets id) (λ set. change_set k id (op set pid steps)) h
-      (λ s is. change-set-within k id (op s pid steps) h
-      (λ next done. set-within-rule.operated s pid steps next (set-is k id s h is) done)))
-  effect-within k pid a (calls.SemGetVal id num) h family makes named own_is =
-      named-within k (get k.sets id) (λ s. look_up k (value_at s num)) h (λ s is. look-within k (value_at s num) h)
-  effect-within k pid a (calls.SemGetPid id num) h family makes named own_is =
-      named-within k (get k.sets id) (λ s. look_up k (last_at s num)) h (λ s is. look-within k (last_at s num) h)
-  effect-within k pid a (calls.SemGetNcnt id num) h family makes named own_is =
-      named-within k (get k.sets id) (λ s. look_up k (waiting_at s num)) h (λ s is. look-within k (waiting_at s num) h)
-  effect-within k pid a (calls.SemGetZcnt id num) h family makes named own_is =
-      named-within k (get k.sets id) (λ s. look_up k (waiting_at s num)) h (λ s is. look-within k (waiting_at s num) h)
-  effect-within k pid a (calls.SemSetVal id num value) h family makes named own_is =
-      named-within k (get k.sets id) (λ s. change_set k id (set_value s num value)) h
-      (λ s is. change-set-within k id (set_value s num value) h
-      (λ next done. set-within-rule.one_set s num value next (set-is k id s h is) done))
-  effect-within k pid a (calls.SemGetAll id) h family makes named own_is =
-      named-within k (get k.sets id) (all_values k) h (λ s is. record { kernel = h; child = tt })
-  effect-within k pid a (calls.SemSetAll id values) h family makes named own_is =
-      named-within k (get k.sets id) (λ s. change_set k id (set_all s values)) h
-      (λ s is. change-set-within k id (set_all s values) h
-      (λ next done. set-within-rule.filled s values next (set-is k id s h is) done))
-  effect-within k pid a (calls.SemRmid id) h family makes named own_is =
-      named-within k (get k.sets id) (λ _. remove_set k id) h (λ s is. remove-set-within k id h)
-  effect-within k pid a (calls.Withdraw name) h family makes named own_is = tt
+  module _ (k : Kernel) (who : Waiting) (a : Alive) (h : Holds k) (family : IsFamilyWithin most a.row.family)
+      (ticket : 1 ≤ who.ticket) where
+    -- A call on a name leaves a kernel within the limits. A call that its process carries out on itself is of the
+    -- node's own process, and one that may have to wait finds room.
+    effect-by-within : (call : Call) → makes_something call ≡ false → is_some (name_for who.pid call) ≡ true
+        → (is_own_home (home_of who.pid call) ≡ true → who.pid ≡ own) → (is_removal call ≡ false → HasRooms k)
+        → Of Within (effect_by k who a call 0)
+    effect-by-within (calls.Fork block) makes named own_is rooms = absurd (false≢true (sym makes))
+    effect-by-within (calls.Exit status) makes named own_is rooms = absurd (false≢true named)
+    effect-by-within (calls.Killed sig) makes named own_is rooms = absurd (false≢true named)
+    effect-by-within calls.GetPid makes named own_is rooms = num-within k who.pid h
+    effect-by-within (calls.Kill target sig) makes named own_is rooms = kill-within k who.pid target sig h
+    effect-by-within (calls.SigAction sig act) makes named own_is rooms =
+        action-within k who.pid a (act_on a.row.signals sig act) h (own_is refl) family
+    effect-by-within (calls.SigProcMask how set) makes named own_is rooms =
+        record { kernel = alive-within k who.pid _ h (own_is refl) family; child = tt; wakes = tt }
+    effect-by-within calls.SigPending makes named own_is rooms = record { kernel = h; child = tt; wakes = tt }
+    effect-by-within (calls.Handled sig) makes named own_is rooms = num-within k _ h
+    effect-by-within (calls.WaitPid child nohang) makes named own_is rooms =
+        reap-within k who.pid a nohang (wait a.row.family child) h (own_is refl) family
+        (found-within (first_ended_child child a.row.family.ended) (list_any (matches child) a.row.family.living)
+        (first-ended-within child a.row.family.ended family.ended))
+    effect-by-within (calls.MsgGet key create excl) makes named own_is rooms = absurd (false≢true (sym makes))
+    effect-by-within (calls.MsgSnd id class text nowait) makes named own_is rooms =
+        on-queue-within k id who h (rooms refl) ticket
+    effect-by-within (calls.MsgRcv id class size noerror nowait) makes named own_is rooms =
+        on-queue-within k id who h (rooms refl) ticket
+    effect-by-within (calls.MsgStat id) makes named own_is rooms = on-queue-within k id who h (rooms refl) ticket
+    effect-by-within (calls.MsgSet id qbytes) makes named own_is rooms =
+        on-queue-within k id who h (rooms refl) ticket
+    effect-by-within (calls.MsgRmid id) makes named own_is rooms =
+        named-within k (get k.queues id) (remove_queue k id) h
+        (λ q is. remove-queue-within k id q h (queue-is k id q h is))
+    effect-by-within (calls.SemGet key count create excl) makes named own_is rooms =
+        absurd (false≢true (sym makes))
+    effect-by-within (calls.SemOp id steps) makes named own_is rooms = on-set-within k id who h (rooms refl) ticket
+    effect-by-within (calls.SemGetVal id num) makes named own_is rooms = on-set-within k id who h (rooms refl) ticket
+    effect-by-within (calls.SemGetPid id num) makes named own_is rooms = on-set-within k id who h (rooms refl) ticket
+    effect-by-within (calls.SemGetNcnt id num) makes named own_is rooms = on-set-within k id who h (rooms refl) ticket
+    effect-by-within (calls.SemGetZcnt id num) makes named own_is rooms = on-set-within k id who h (rooms refl) ticket
+    effect-by-within (calls.SemSetVal id num value) makes named own_is rooms =
+        on-set-within k id who h (rooms refl) ticket
+    effect-by-within (calls.SemGetAll id) makes named own_is rooms = on-set-within k id who h (rooms refl) ticket
+    effect-by-within (calls.SemSetAll id values) makes named own_is rooms =
+        on-set-within k id who h (rooms refl) ticket
+    effect-by-within (calls.SemRmid id) makes named own_is rooms =
+        named-within k (get k.sets id) (remove_set k id) h (λ s is. remove-set-within k id s h (set-is k id s h is))
+    effect-by-within (calls.Withdraw name) makes named own_is rooms = tt
+
+    -- the same of the call with which its caller would wait
+    pub effect-within : makes_something who.call ≡ false → is_some (name_for who.pid who.call) ≡ true
+        → (is_own_home (home_of who.pid who.call) ≡ true → who.pid ≡ own)
+        → (is_removal who.call ≡ false → HasRooms k) → Of Within (effect k who a 0)
+    effect-within makes named own_is rooms = effect-by-within who.call makes named own_is rooms

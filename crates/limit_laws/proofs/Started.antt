@@ -1,29 +1,32 @@
 -- A node starts its process's next call within limits.
-use Rattle.std.proofs.Common.{◌≡◌, ◌++◌, Option, Some, None, Result, Err, Ok, ℕ, true, not, ◌&&◌, nat_eq, refl, ◌≤◌, List, ◌+◌, [], ◌∷◌, map, arith, ap, subst}
+use Rattle.std.proofs.Common.{◌≡◌, ◌++◌, Option, Some, None, Result, Err, Ok, ℕ, true, not, ◌&&◌, nat_eq, refl, ◌<◌, ◌≤◌, length, List, ◌+◌, [], ◌∷◌, ◌∙◌, map, arith, ap, subst, sym}
+use Rattle.std.proofs.lemmas.Bool.{false≢true}
 use Rattle.std.specs.List.{AllByRecursion}
 use Rattle.std.specs.Option.{option_and_then}
+use Rattle.std.specs.Prelude.{if◌then◌else◌}
 use Rattle.kernel_laws.proofs.Plain.{by_test, Of, from_some, of-map, of-some, of-next, of-test}
 use Rattle.kernel_model.specs.Numbers.{is_u32}
 use Rattle.kernel_model.specs.Row.{Row}
 use Rattle.kernel_model.specs.Script.{IsSoundScript}
 use Rattle.kernel_model.specs.SemaphoreSet.{SemaphoreSet, new_set}
-use Rattle.kernel_model.specs.Waiting.{is_waiting}
 use Rattle.limit_laws.proofs.Carried.{IsServedWithin, numbered-are-gone, serve-within}
 use Rattle.limit_laws.proofs.Frames.{forwarded-has-ticket, forwarded-is-asked, forwarded-is-requested, spellable-is-forwarded, lease-ask-is-frame, leaving-is-frame}
 use Rattle.limit_laws.proofs.Lines.{IsDueWithin, due-within}
-use Rattle.limit_laws.proofs.Named.{deeds-put-all, held-is-numbered}
+use Rattle.limit_laws.proofs.Named.{deeds-get, deeds-put-all, held-is-numbered}
 use Rattle.limit_laws.proofs.NewNames.{own-row-within, own-answered-within, make-within}
+use Rattle.limit_laws.proofs.Plain.{some-nonzero}
 use Rattle.limit_laws.proofs.Routed.{route-call-within}
-use Rattle.limit_laws.proofs.Steps.{tables-within, with-node-within, send-within, serve-asked-within, with-deeds-within, step-to-within}
+use Rattle.limit_laws.proofs.Steps.{at-name, carry-out-waking-within, tables-within, with-node-within, send-within, serve-asked-within, with-deeds-within, step-to-within}
 use Rattle.limit_laws.specs.Bodies.{IsFamilyWithin}
-use Rattle.limit_laws.specs.Within.{IsDeedWithin, IsNodeWithin, IsStepWithin, IsUnderWayWithin, asked_of}
-use Rattle.node_model.specs.Bodies.{Living as LivingBody}
+use Rattle.limit_laws.specs.Within.{IsBodyWithin, IsDeedWithin, IsNodeWithin, IsStepWithin, IsUnderWayWithin, asked_of}
+use Rattle.node_model.specs.Bodies.{Body, Living as LivingBody, Ended, Gone, AQueue, ASet, Removed, waiters_of}
 use Rattle.node_model.specs.Cache.{owner_in, look}
 use Rattle.node_model.specs.Caller.{due_call, start_call}
-use Rattle.node_model.specs.Kinds.{for_kind, put_all}
+use Rattle.node_model.specs.Kinds.{for_kind, get_named, put_all}
 use Rattle.node_model.specs.Leases.{is_used_up}
 use Rattle.node_model.specs.Parcels.{end_first}
-use Rattle.node_model.specs.Serving.{serve}
+use Rattle.node_model.specs.Serving.{name_in, serve, waiting_as}
+use Rattle.number_maps.proofs.Order.{eq-same}
 use Rattle.pico_base.specs.Home.{home_of}
 use Rattle.pico_base.specs.declared.call.Call.TheVariants as calls
 use Rattle.pico_base.specs.declared.call.Call.{Call}
@@ -38,6 +41,9 @@ use Rattle.pico_base.specs.declared.reply.Errno.{Errno}
 use Rattle.pico_base.specs.declared.reply.Reply.TheVariants as replies
 use Rattle.pico_base.specs.declared.script.Script.{Script}
 use Rattle.rpc_frame.specs.declared.frame.Frame.TheVariants as frames
+use Rattle.waiter_fields.specs.Waiters.{max_waiters}
+use Rattle.waiting_model.specs.Calls.{is_withdrawal, may_park}
+use Rattle.waiting_model.specs.declared.callers.Waiting.{Waiting}
 use Rattle.world_model.specs.Calls.{is_for_others}
 use Rattle.world_model.specs.Node.{Node, is_leader, holds, own_row, asked_here, Leaving, Over, can_run}
 use Rattle.world_model.specs.Numbers.{make}
@@ -59,18 +65,38 @@ module _ (script : Script) (sound : IsSoundScript script) where
 
   -- ---- calls on the process itself
 
-  act-within : (s : Step) (call : Call) → StepIs s → IsUnder s call → Of StepIs (act script s call)
-  act-within s call k is =
+  -- nobody waits at a process
+  process-has-room : (own most pid : ℕ) (body : Body) → IsBodyWithin own most (Proc pid) body
+      → length (waiters_of body) < max_waiters
+  process-has-room own most pid (LivingBody row) h = omega arith
+  process-has-room own most pid (Ended ending) h = omega arith
+  process-has-room own most pid Gone h = omega arith
+  process-has-room own most pid (AQueue q) h = absurd h
+  process-has-room own most pid (ASet set) h = absurd h
+  process-has-room own most pid Removed h = absurd h
+
+  act-within : (s : Step) (call : Call) → StepIs s → IsUnder s call → home_of s.node.pid call ≡ homes.Own
+      → Of StepIs (act script s call)
+  act-within s call k is own =
       let n : Node = s.node
+      in let who : Waiting = waiting_as (asked_here n call)
       in let under : IsUnderWayWithin script n.number n.pid n.caller call = k.node.under_way call is
-      in of-map StepIs (serve n.deeds n.pid call) (carry_out_own script s call)
+      in of-map StepIs (serve n.deeds who) (carry_out_own script s call)
       (λ served there.
-      let h : IsServedWithin n.pid n.caller.line n.pid call served =
-      of-some (IsServedWithin n.pid n.caller.line n.pid call) (serve n.deeds n.pid call) served
-      (serve-within n.pid n.caller.line n.pid call (λ _. refl) n.deeds k.node.deeds) there
-      in own-answered-within script sound (with_deeds s (put_all n.deeds served.changes)) call served.reply
+      let h : IsServedWithin n.pid n.caller.line who served =
+      of-some (IsServedWithin n.pid n.caller.line who) (serve n.deeds who) served
+      (serve-within n.pid n.caller.line who under.ticket (λ _. refl) n.deeds k.node.deeds
+      (λ name body called held _.
+      process-has-room n.pid n.caller.line n.pid body
+      (deeds-get n.pid n.caller.line n.deeds (Proc n.pid) body k.node.deeds
+      (subst (λ (x : Name). get_named n.deeds x ≡ Some body)
+      (from_some name (Proc n.pid) (sym called ∙ ap (name_in n.pid) own)) held)).1)) there
+      in let held : Step = with_deeds s (put_all n.deeds served.changes)
+      in carry-out-waking-within script sound held (asked_here n call) served.own served.wakes
       (with-deeds-within script sound s (put_all n.deeds served.changes) k
-      (deeds-put-all n.pid n.caller.line served.changes n.deeds k.node.deeds h.changes)) under.ticket)
+      (deeds-put-all n.pid n.caller.line served.changes n.deeds k.node.deeds h.changes))
+      (some-nonzero n.caller.ticket under.ticket)
+      (λ other. absurd (false≢true (sym other ∙ eq-same n.number))) h.wakes)
 
   start-making-within : (s : Step) (call : Call) (kind : Kind) → StepIs s → IsUnder s call
       → Of StepIs (start_making script s call kind)
@@ -86,13 +112,14 @@ module _ (script : Script) (sound : IsSoundScript script) where
       own-answered-within script sound s call (replies.Fail e) k (k.node.under_way call is).ticket
   start-set-within s call (Ok set) k is = start-making-within s call kinds.Sem k is
 
-  start-own-within : (s : Step) (call : Call) → StepIs s → IsUnder s call → Of StepIs (start_own script s call)
-  start-own-within s (calls.Fork block) k is = start-making-within s (calls.Fork block) kinds.Proc k is
-  start-own-within s (calls.MsgGet key create excl) k is =
+  start-own-within : (s : Step) (call : Call) → StepIs s → IsUnder s call → home_of s.node.pid call ≡ homes.Own
+      → Of StepIs (start_own script s call)
+  start-own-within s (calls.Fork block) k is own = start-making-within s (calls.Fork block) kinds.Proc k is
+  start-own-within s (calls.MsgGet key create excl) k is own =
       start-making-within s (calls.MsgGet key create excl) kinds.Msg k is
-  start-own-within s (calls.SemGet key count create excl) k is =
+  start-own-within s (calls.SemGet key count create excl) k is own =
       start-set-within s (calls.SemGet key count create excl) (new_set count) k is
-  start-own-within s call k is = act-within s call k is
+  start-own-within s call k is own = act-within s call k is own
 
   -- ---- calls that others carry out
 
@@ -119,20 +146,24 @@ module _ (script : Script) (sound : IsSoundScript script) where
       (forwarded-is-requested (asked_here s.node call) (under.others others)) tt)
 
   start-at-within : (s : Step) (call : Call) (name : Name) → StepIs s → IsUnder s call
-      → is_for_others (home_of s.node.pid call) ≡ true → Of StepIs (start_at script s call name)
-  start-at-within s call name k is others =
+      → home_of s.node.pid call ≡ homes.At name → Of StepIs (start_at script s call name)
+  start-at-within s call name k is home_is =
       let n : Node = s.node
+      in let others : is_for_others (home_of n.pid call) ≡ true = ap is_for_others home_is
       in let under : IsUnderWayWithin script n.number n.pid n.caller call = k.node.under_way call is
+      in let looked : Step = with_node s (with_look n name)
       in by_test (Of StepIs) (holds n name)
       (serve_asked script s name (asked_here n call))
-      (request script (with_node s (with_look n name)) call (owner_in n.cache name))
+      (if may_park call then ask script s call else request script looked call (owner_in n.cache name))
       (λ held. serve-asked-within script sound s name (asked_here n call) k
-      (forwarded-has-ticket (asked_here n call) (under.others others)) others
+      (forwarded-has-ticket (asked_here n call) (under.others others)) (at-name (asked_here n call) name home_is)
       (held-is-numbered n.pid n.caller.line n.deeds name k.node.deeds held))
-      (λ _. request-within (with_node s (with_look n name)) call (owner_in n.cache name)
+      (λ _. by_test (Of StepIs) (may_park call) (ask script s call) (request script looked call (owner_in n.cache name))
+      (λ _. ask-within s call k is others)
+      (λ _. request-within looked call (owner_in n.cache name)
       (with-node-within script sound s (with_look n name) k
       (tables-within script sound n n.stage n.deeds n.watches n.leases (look n.cache name) k.node k.node.deeds
-      k.node.leases)) is others)
+      k.node.leases)) is others))
 
   -- ---- the end
 
@@ -177,9 +208,8 @@ module _ (script : Script) (sound : IsSoundScript script) where
   start-by-within : (s : Step) (call : Call) (row : Row) (home : Home) → home_of s.node.pid call ≡ home → StepIs s
       → IsUnder s call → IsDeedWithin s.node.pid s.node.caller.line (Proc s.node.pid) (LivingBody row)
       → Of StepIs (start_by script s call row home)
-  start-by-within s call row homes.Own home_is k is own = start-own-within s call k is
-  start-by-within s call row (homes.At name) home_is k is own =
-      start-at-within s call name k is (ap is_for_others home_is)
+  start-by-within s call row homes.Own home_is k is own = start-own-within s call k is home_is
+  start-by-within s call row (homes.At name) home_is k is own = start-at-within s call name k is home_is
   start-by-within s call row homes.Keys home_is k is own = ask-within s call k is (ap is_for_others home_is)
   start-by-within s call row (homes.Removal name) home_is k is own =
       ask-within s call k is (ap is_for_others home_is)
@@ -210,7 +240,7 @@ module _ (script : Script) (sound : IsSoundScript script) where
   start-within n row call k there due =
       let started : Node = record n { caller = start_call n.caller call }
       in let started_within : NodeIs started = started-node n call k due
-      in by_test (Of StepIs) (is_waiting call) None
+      in by_test (Of StepIs) (is_withdrawal call) None
       (start_by script (step_to started) call row (home_of n.pid call)) (λ _. tt)
       (λ _. start-by-within (step_to started) call row (home_of n.pid call) refl
       (step-to-within script sound started started_within) refl

@@ -1,10 +1,12 @@
 -- What a step does to a node within limits, and sends, is within limits.
-use Rattle.std.proofs.Common.{◌≡◌, ◌++◌, Option, Some, None, ℕ, true, false, ◌&&◌, nat_eq, refl, ◌≤◌, length, ◌+◌, [], ◌∷◌, nat_lt, ◌∙◌, arith, sym}
+use Rattle.std.proofs.Common.{◌≡◌, ◌++◌, Option, Some, None, ℕ, true, false, not, ◌&&◌, nat_eq, refl, ◌<◌, ◌≤◌, List, length, ◌+◌, [], ◌∷◌, nat_lt, ◌∙◌, inl, inr, ap, subst, arith, sym}
+use Rattle.std.proofs.lemmas.Bool.{and_parts, false≢true, ltb-true, or_cases}
 use Rattle.std.proofs.lemmas.Option.{slice_get_within}
 use Rattle.std.specs.List.{AllByRecursion}
+use Rattle.std.specs.Option.{option_map, option_map_or}
 use Rattle.std.specs.Prelude.{if◌then◌else◌, slice_get}
 use Rattle.frame_bytes.specs.Limits.{is_frame, is_nonzero}
-use Rattle.kernel_laws.proofs.Plain.{by_test, Of, not_some, of-map, of-some}
+use Rattle.kernel_laws.proofs.Plain.{by_test, Of, from_some, not_some, of-map, of-some}
 use Rattle.kernel_model.specs.Fitting.{asks_again, set_variable, value_in}
 use Rattle.kernel_model.specs.Script.{IsSoundScript}
 use Rattle.limit_laws.proofs.Carried.{IsServedWithin, others-not-own, serve-within}
@@ -12,23 +14,27 @@ use Rattle.limit_laws.proofs.Frames.{answer-is-frame, suggest-is-frame}
 use Rattle.limit_laws.proofs.Lengths.{grant-is-frame}
 use Rattle.limit_laws.proofs.Lines.{IsFineLine, lines-of-are-fine, lines-of-are-few}
 use Rattle.limit_laws.proofs.Named.{deeds-get, named-get, named-put, deeds-without, deeds-put-all, deeds-more}
+use Rattle.limit_laws.proofs.Plain.{nonzero-some, some-nonzero}
 use Rattle.limit_laws.proofs.Replies.{fail-is-short}
 use Rattle.kernel_laws.proofs.Lists.{all-both, all-at}
 use Rattle.limit_laws.proofs.Vars.{set-are-variables}
-use Rattle.limit_laws.specs.Within.{AreDeedsWithin, AreVariables, IsReplyShort, IsItemWithin, AreItemsWithin, IsPlaceWithin, IsDirectoryWithin, IsNodeWithin, IsSentWithin, IsStepWithin, SaysWithin}
-use Rattle.node_model.specs.Bodies.{Body, Deeds}
+use Rattle.limit_laws.specs.Within.{AreDeedsWithin, AreVariables, IsReplyShort, IsItemWithin, AreItemsWithin, IsPlaceWithin, IsDirectoryWithin, IsNodeWithin, IsSentWithin, IsStepWithin, IsWakeWithin, SaysWithin}
+use Rattle.node_model.specs.Bodies.{Body, Deeds, waiters_of}
 use Rattle.node_model.specs.Cache.{Cache}
+use Rattle.node_model.specs.Carrying.{is_removal}
 use Rattle.node_model.specs.Caller.{Caller, lines_of, answer_call, answer_at, end_call}
 use Rattle.node_model.specs.Directory.{At, Directory, Place, Coming, place_of, stays, held_for, arrive, items_of, is_known, place_name, recall, hold, with_leaving, place_without, places_without, hold_at, with_place}
+use Rattle.node_model.specs.Entries.{outcome_with}
 use Rattle.node_model.specs.Kinds.{for_kind, number_of, get_named, put_all, without_named}
 use Rattle.node_model.specs.Leases.{Leases}
-use Rattle.node_model.specs.Serving.{Served, serve, no_such_name, has_read}
+use Rattle.node_model.specs.Serving.{Served, serve, admits, name_for, name_in, no_such_name, waiting_as, waits_in}
 use Rattle.node_model.specs.Spelling.{pack}
-use Rattle.node_model.specs.Watches.{Watches, with_read, moves_to, unwatch}
+use Rattle.node_model.specs.Watches.{Watches, with_reads, last_move, unwatch}
 use Rattle.node_model.specs.declared.held.Held.{Held}
 use Rattle.number_maps.specs.Maps.{Numbered}
 use Rattle.pico_base.specs.Home.{home_of}
 use Rattle.pico_base.specs.declared.call.Call.{Call}
+use Rattle.pico_base.specs.declared.call.Home.TheVariants as homes
 use Rattle.pico_base.specs.declared.numbers.Kind.{Kind}
 use Rattle.pico_base.specs.declared.numbers.Name.TheVariants.{Proc, Msg, Sem}
 use Rattle.pico_base.specs.declared.numbers.Name.{Name}
@@ -39,10 +45,27 @@ use Rattle.pico_base.specs.declared.script.Script.{Script}
 use Rattle.rpc_frame.specs.declared.asked.Asked.{Asked}
 use Rattle.rpc_frame.specs.declared.frame.Frame.TheVariants as frames
 use Rattle.rpc_frame.specs.declared.frame.Frame.{Frame}
+use Rattle.waiter_fields.specs.Waiters.{max_waiters}
+use Rattle.waiting_model.specs.declared.callers.Wake.{Wake}
+use Rattle.waiting_model.specs.declared.callers.Waiting.{Waiting}
 use Rattle.world_model.specs.Calls.{is_for_others}
 use Rattle.world_model.specs.Node.{Node, is_leader, under_way_as, Leader, Stage}
-use Rattle.world_model.specs.Serving.{without_deed, serve_asked, serve_nobody, grant, grant_held, move_to, note_read, serve_asked_with}
-use Rattle.world_model.specs.Step.{send, Step, step_to, with_directory, with_node, with_deeds, carry_out, with_leader, enter, reply_here, reply_to}
+use Rattle.world_model.specs.Serving.{without_deed, has_room, is_struck, serve_asked, serve_nobody, grant, grant_held, move_to, note_reads, serve_asked_with}
+use Rattle.world_model.specs.Step.{send, Step, step_to, with_directory, with_node, with_deeds, with_strike, carry_out, carry_out_waking, with_leader, enter, enter_with, reply_at, reply_here, reply_if, wake_all, wake_one}
+
+-- others carry the call out, on this name
+pub record IsCalledOn (name : Name) (asked : Asked) : Type 0 where
+  pub others : is_for_others (home_of asked.pid asked.call) ≡ true
+  pub named : name_for asked.pid asked.call ≡ Some name
+
+-- a call on a name
+pub at-name : (asked : Asked) (name : Name) → home_of asked.pid asked.call ≡ homes.At name → IsCalledOn name asked
+at-name asked name is = record { others = ap is_for_others is; named = ap (name_in asked.pid) is }
+
+-- and its removal
+pub at-removal : (asked : Asked) (name : Name) → home_of asked.pid asked.call ≡ homes.Removal name
+    → IsCalledOn name asked
+at-removal asked name is = record { others = ap is_for_others is; named = ap (name_in asked.pid) is }
 
 module _ (script : Script) (sound : IsSoundScript script) where
   abbrev NodeIs : Node → Type 0
@@ -187,28 +210,52 @@ module _ (script : Script) (sound : IsSoundScript script) where
   pub enter-within : (s : Step) (pid : ℕ) (call : Call) (reply : Reply) → StepIs s → StepIs (enter s pid call reply)
   enter-within s pid call reply k = record { node = k.node; sends = k.sends }
 
-  reply-here-within : (s : Step) (reply : Reply) (o : Option Call) → StepIs s → StepIs (reply_here script s reply o)
+  -- the call under way, if there is one, has its reply
+  pub reply-here-within : (s : Step) (reply : Reply) (o : Option Call) → StepIs s → StepIs (reply_here script s reply o)
   reply-here-within s reply None k = k
   reply-here-within s reply (Some call) k =
       with-node-within s (record s.node { caller = answer_call script s.node.number s.node.caller call reply }) k
       (answered-within s.node call reply k.node)
 
-  -- a reply goes to its caller, which may be here
-  pub reply-to-within : (s : Step) (asked : Asked) (reply : Reply) → StepIs s → is_nonzero asked.ticket ≡ true
-      → (nat_eq asked.caller s.node.number ≡ false → IsReplyShort reply) → StepIs (reply_to script s asked reply)
-  reply-to-within s asked reply k ticket short =
-      by_test StepIs (nat_eq asked.caller s.node.number) (reply_here script s reply (under_way_as s.node asked.ticket))
-      (send s asked.caller (frames.Answer asked.ticket reply))
-      (λ _. reply-here-within s reply (under_way_as s.node asked.ticket) k)
-      (λ other. send-within s asked.caller (frames.Answer asked.ticket reply) k
-      (answer-is-frame asked.ticket reply ticket (short other)) tt)
+  -- a reply goes to the node of its caller, which may be this one
+  pub reply-at-within : (s : Step) (caller ticket : ℕ) (reply : Reply) → StepIs s → is_nonzero ticket ≡ true
+      → (nat_eq caller s.node.number ≡ false → IsReplyShort reply) → StepIs (reply_at script s caller ticket reply)
+  reply-at-within s caller ticket reply k nonzero short =
+      by_test StepIs (nat_eq caller s.node.number) (reply_here script s reply (under_way_as s.node ticket))
+      (send s caller (frames.Answer ticket reply))
+      (λ _. reply-here-within s reply (under_way_as s.node ticket) k)
+      (λ other. send-within s caller (frames.Answer ticket reply) k
+      (answer-is-frame ticket reply nonzero (short other)) tt)
 
   -- A call is carried out.
   pub carry-out-within : (s : Step) (asked : Asked) (reply : Reply) → StepIs s → is_nonzero asked.ticket ≡ true
       → (nat_eq asked.caller s.node.number ≡ false → IsReplyShort reply) → StepIs (carry_out script s asked reply)
   carry-out-within s asked reply k ticket short =
       let entered = enter-within s asked.pid asked.call reply k
-      in reply-to-within (enter s asked.pid asked.call reply) asked reply entered ticket short
+      in reply-at-within (enter s asked.pid asked.call reply) asked.caller asked.ticket reply entered ticket short
+
+  reply-if-within : (s : Step) (asked : Asked) (own : Option Reply) → StepIs s → is_nonzero asked.ticket ≡ true
+      → (nat_eq asked.caller s.node.number ≡ false → Of IsReplyShort own) → StepIs (reply_if script s asked own)
+  reply-if-within s asked None k ticket short = k
+  reply-if-within s asked (Some reply) k ticket short =
+      reply-at-within s asked.caller asked.ticket reply k ticket short
+
+  wake-all-within : (wakes : List Wake) (s : Step) → StepIs s → AllByRecursion IsWakeWithin wakes
+      → StepIs (wake_all script s wakes)
+  wake-all-within [] s k all = k
+  wake-all-within (w ∷ wakes) s k all =
+      let first : IsWakeWithin w = all.0
+      in wake-all-within wakes (wake_one script s w)
+      (reply-at-within s w.caller w.ticket w.reply k (some-nonzero w.ticket first.ticket) (λ _. first.reply)) all.1
+
+  -- So is one that may have to wait or wake others.
+  pub carry-out-waking-within : (s : Step) (asked : Asked) (own : Option Reply) (wakes : List Wake) → StepIs s
+      → is_nonzero asked.ticket ≡ true → (nat_eq asked.caller s.node.number ≡ false → Of IsReplyShort own)
+      → AllByRecursion IsWakeWithin wakes → StepIs (carry_out_waking script s asked own wakes)
+  carry-out-waking-within s asked own wakes k ticket short all =
+      let entered : Step = enter_with s asked.pid asked.call (outcome_with own wakes)
+      in wake-all-within wakes (reply_if script entered asked own)
+      (reply-if-within entered asked own (record { node = k.node; sends = k.sends }) ticket short) all
 
   -- ---- the directory
 
@@ -318,44 +365,65 @@ module _ (script : Script) (sound : IsSoundScript script) where
       (λ _. grant-within s name to k) (λ _. k))
       (λ _. send-within s 1 (frames.Suggest name to) k (suggest-is-frame name to low) tt)
 
-  -- a read is noted
-  pub note-read-within : (s : Step) (name : Name) (reader : ℕ) → StepIs s → 1 ≤ number_of name
-      → StepIs (note_read s name reader)
-  note-read-within s name reader k low =
+  -- reads are noted
+  pub note-reads-within : (s : Step) (name : Name) (readers : List ℕ) → StepIs s → 1 ≤ number_of name
+      → StepIs (note_reads s name readers)
+  note-reads-within s name readers k low =
       let n : Node = s.node
-      in move-to-within (with_node s (record n { watches = with_read n.watches n.number name reader })) name
-      (moves_to n.watches n.number name reader)
-      (with-node-within s (record n { watches = with_read n.watches n.number name reader }) k
-      (tables-within n n.stage n.deeds (with_read n.watches n.number name reader) n.leases n.cache k.node k.node.deeds
-      k.node.leases)) low
+      in let watches : Watches = with_reads n.watches n.number name readers
+      in move-to-within (with_node s (record n { watches = watches })) name (last_move n.watches n.number name readers)
+      (with-node-within s (record n { watches = watches }) k
+      (tables-within n n.stage n.deeds watches n.leases n.cache k.node k.node.deeds k.node.leases)) low
 
   serve-asked-with-within : (s : Step) (name : Name) (asked : Asked) (served : Served) → StepIs s
       → is_nonzero asked.ticket ≡ true → is_for_others (home_of asked.pid asked.call) ≡ true → 1 ≤ number_of name
-      → IsServedWithin s.node.pid s.node.caller.line asked.pid asked.call served
+      → IsServedWithin s.node.pid s.node.caller.line (waiting_as asked) served
       → StepIs (serve_asked_with script s name asked served)
   serve-asked-with-within s name asked served k ticket others low h =
       let n : Node = s.node
-      in let held : Step = with_deeds s (put_all n.deeds served.changes)
-      in let done : Step = carry_out script held asked served.reply
-      in let done_within : StepIs done =
-      carry-out-within held asked served.reply
-      (with-deeds-within s (put_all n.deeds served.changes) k
+      in let struck : Step = with_strike s (is_struck n name asked.call)
+      in let struck_within : StepIs struck = record { node = k.node; sends = k.sends }
+      in let held : Step = with_deeds struck (put_all n.deeds served.changes)
+      in note-reads-within (carry_out_waking script held asked served.own served.wakes) name served.readers
+      (carry-out-waking-within held asked served.own served.wakes
+      (with-deeds-within struck (put_all n.deeds served.changes) struck_within
       (deeds-put-all n.pid n.caller.line served.changes n.deeds k.node.deeds h.changes)) ticket
-      (λ _. h.reply others)
-      in by_test StepIs (has_read asked.call served.reply) (note_read done name asked.caller) done
-      (λ _. note-read-within done name asked.caller done_within low) (λ _. done_within)
+      (λ _. h.reply others) h.wakes) low
+
+  -- where the name's body has room
+  room-in : (who : Waiting) (body : Body) → admits body who ≡ true → is_removal who.call ≡ false
+      → length (waiters_of body) < max_waiters
+  room-in who body room stays =
+      elim (or_cases (is_removal who.call)
+      (nat_lt (length (waiters_of body)) max_waiters && not (waits_in body who.pid)) room) [
+        | inl removes ↦ absurd (false≢true (sym stays ∙ removes))
+        | inr free ↦ ltb-true (length (waiters_of body)) max_waiters (and_parts _ _ free).0
+      ]
+
+  room-at : (o : Option Body) (body : Body) (who : Waiting) → option_map_or (λ b. admits b who) o true ≡ true
+      → o ≡ Some body → is_removal who.call ≡ false → length (waiters_of body) < max_waiters
+  room-at None body who room is stays = not_some body is
+  room-at (Some b) body who room is stays =
+      subst (λ (x : Body). length (waiters_of x) < max_waiters) (from_some b body is) (room-in who b room stays)
 
   -- A call that others carry out is served.
   pub serve-asked-within : (s : Step) (name : Name) (asked : Asked) → StepIs s → is_nonzero asked.ticket ≡ true
-      → is_for_others (home_of asked.pid asked.call) ≡ true → 1 ≤ number_of name
-      → Of StepIs (serve_asked script s name asked)
-  serve-asked-within s name asked k ticket others low =
+      → IsCalledOn name asked → 1 ≤ number_of name → Of StepIs (serve_asked script s name asked)
+  serve-asked-within s name asked k ticket on low =
       let n : Node = s.node
-      in of-map StepIs (serve n.deeds asked.pid asked.call) (serve_asked_with script s name asked)
-      (λ served is. serve-asked-with-within s name asked served k ticket others low
-      (of-some (IsServedWithin n.pid n.caller.line asked.pid asked.call) (serve n.deeds asked.pid asked.call) served
-      (serve-within n.pid n.caller.line asked.pid asked.call
-      (λ own. others-not-own (home_of asked.pid asked.call) others own) n.deeds k.node.deeds) is))
+      in let who : Waiting = waiting_as asked
+      in by_test (Of StepIs) (has_room s name asked)
+      (option_map (serve_asked_with script s name asked) (serve n.deeds who)) (Some s)
+      (λ room. of-map StepIs (serve n.deeds who) (serve_asked_with script s name asked)
+      (λ served is. serve-asked-with-within s name asked served k ticket on.others low
+      (of-some (IsServedWithin n.pid n.caller.line who) (serve n.deeds who) served
+      (serve-within n.pid n.caller.line who (nonzero-some asked.ticket ticket)
+      (λ own. others-not-own (home_of asked.pid asked.call) on.others own) n.deeds k.node.deeds
+      (λ other body called there.
+      room-at (get_named n.deeds name) body who room
+      (subst (λ (x : Name). get_named n.deeds x ≡ Some body) (from_some other name (sym called ∙ on.named))
+      there))) is)))
+      (λ _. k)
 
   -- So is one on a number that names nothing.
   pub serve-nobody-within : (s : Step) (name : Name) (asked : Asked) → StepIs s → is_nonzero asked.ticket ≡ true

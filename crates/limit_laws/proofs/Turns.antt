@@ -9,7 +9,6 @@ use Rattle.frame_bytes.specs.Limits.{is_frame, is_deed, is_nonzero, are_vars, is
 use Rattle.kernel_laws.proofs.Plain.{by_test, Of, if-some, not_some, of-map, of-some, of-next, of-test}
 use Rattle.kernel_model.specs.Row.{Row, new_row}
 use Rattle.kernel_model.specs.Script.{Vars, IsSoundScript}
-use Rattle.kernel_model.specs.Waiting.{is_waiting}
 use Rattle.limit_laws.proofs.Frames.{forwarded-has-ticket, forwarded-is-bounced, bounced-is-forwarded, not-owner-is-frame, lease-is-frame, left-is-exit}
 use Rattle.limit_laws.proofs.Lengths.{nonzero-is-some, grant-is-frame, give-back-is-frame, left-is-frame}
 use Rattle.limit_laws.proofs.Named.{deeds-put, deeds-get, numbers-from, held-is-numbered, deeds-without, deeds-none}
@@ -19,7 +18,8 @@ use Rattle.limit_laws.proofs.Released.{exit-here-within, release-within}
 use Rattle.limit_laws.proofs.Routed.{route-call-within, recall-from-within}
 use Rattle.limit_laws.proofs.Served.{no-family-within}
 use Rattle.limit_laws.proofs.Started.{ask-within, run-within}
-use Rattle.limit_laws.proofs.Steps.{tables-within, send-within, placed-within, serve-asked-within, serve-nobody-within, arrived-within, held-are-within, directory-within, step-to-within, few-lines, answered-within, leaving-within}
+use Rattle.limit_laws.proofs.Steps.{at-name, tables-within, send-within, placed-within, serve-asked-within, serve-nobody-within, arrived-within, held-are-within, directory-within, step-to-within, few-lines, answered-within, leaving-within}
+use Rattle.limit_laws.proofs.Strikes.{strike-within, take-cancel-within}
 use Rattle.kernel_laws.proofs.Lists.{all-both}
 use Rattle.limit_laws.proofs.Vars.{none-are-variables, brought-are-variables}
 use Rattle.limit_laws.specs.Bodies.{IsFamilyWithin}
@@ -52,18 +52,21 @@ use Rattle.rpc_frame.specs.declared.deed.PackedDeed.{PackedDeed}
 use Rattle.rpc_frame.specs.declared.deed.Parcel.{Parcel}
 use Rattle.rpc_frame.specs.declared.frame.Frame.TheVariants as frames
 use Rattle.rpc_frame.specs.declared.frame.Frame.{Frame}
+use Rattle.waiting_model.specs.Calls.{is_withdrawal}
 use Rattle.world_model.specs.Calls.{is_for_others, is_to_leader, is_from_leader, take_ask, take_bounce, take_forward, take_request, take_not_owner, take_answer, is_on_name_or_removal, ask_after, asks_as, with_forgotten, answered_by, bounce, bounce_or_nobody, end_with_reply, forwarded_by, requested_by, with_learnt}
 use Rattle.world_model.specs.Lives.{take_checkpoint, take_leaving, take_recall_all, take_left, take_exit, is_forked_by, is_new_row, is_end, born_with, be_born, hand_over, send_to_leader, place_family, end_released, may_take, is_of_process, may_leave}
-use Rattle.world_model.specs.Moves.{is_at, give_back as gives_back, take_suggest, take_recall, take_give_back, take_grant, keep, come_back, goes_on_to, is_new_here, pass_on, receive_deed, suggest}
+use Rattle.world_model.specs.Moves.{is_at, give_back as gives_back, take_suggest, take_recall, take_give_back, take_grant, keep, come_back, goes_on_to, has_nodes, is_new_here, pass_on, receive_deed, suggest}
 use Rattle.world_model.specs.Node.{Left, Node, is_leader, holds, is_node, is_born, under_way_as, first_node, is_unborn, is_leaving_stage, unborn_node}
 use Rattle.world_model.specs.Numbers.{make}
 use Rattle.world_model.specs.Ranges.{take_lease_ask, take_lease, take_placed, go_on_with, may_lease}
 use Rattle.world_model.specs.Ends.{names_in, exit_here}
 use Rattle.world_model.specs.Routes.{recall_from, route_call}
 use Rattle.world_model.specs.Serving.{without_deed, serve_asked, serve_nobody}
+use Rattle.world_model.specs.Releases.{release}
 use Rattle.world_model.specs.Starting.{run}
 use Rattle.world_model.specs.Step.{Step, step_to, with_directory, send}
-use Rattle.world_model.specs.Turn.{has_room_for, is_given_out, may_come, take_by_kind, take_frame}
+use Rattle.world_model.specs.Strikes.{strike}
+use Rattle.world_model.specs.Turn.{has_room_for, is_given_out, may_come, take_by_kind, take_by_rules}
 
 module _ (script : Script) (sound : IsSoundScript script) where
   abbrev NodeIs : Node → Type 0
@@ -118,7 +121,7 @@ module _ (script : Script) (sound : IsSoundScript script) where
       by_test Taken (holds n name) (serve_asked script (step_to n) name asked)
       (Some (bounce_or_nobody script n asked name))
       (λ held. serve-asked-within script sound (step_to n) name asked (started n k) (forwarded-has-ticket asked can)
-      (ap is_for_others is) (held-is-numbered n.pid n.caller.line n.deeds name k.deeds held))
+      (at-name asked name is) (held-is-numbered n.pid n.caller.line n.deeds name k.deeds held))
       (λ _. bounce-or-nobody-within n asked name k can)
   forwarded-within n asked (homes.Removal name) is k can =
       by_test Taken (holds n name) (Some (bounce n asked)) (Some (bounce_or_nobody script n asked name))
@@ -130,7 +133,7 @@ module _ (script : Script) (sound : IsSoundScript script) where
   take-forward-within : (n : Node) (sender : ℕ) (asked : Asked) → NodeIs n → CanRoute asked
       → Taken (take_forward script n sender asked)
   take-forward-within n sender asked k can =
-      of-test StepIs (is_from_leader n sender && (is_node script asked.caller && not (is_waiting asked.call)))
+      of-test StepIs (is_from_leader n sender && (is_node script asked.caller && not (is_withdrawal asked.call)))
       (forwarded_by script n asked (home_of asked.pid asked.call))
       (λ _. forwarded-within n asked (home_of asked.pid asked.call) refl k can)
 
@@ -139,7 +142,7 @@ module _ (script : Script) (sound : IsSoundScript script) where
   requested-within n asked (homes.At name) is k ticket =
       by_test Taken (holds n name) (serve_asked script (step_to n) name asked)
       (Some (send (step_to n) asked.caller (frames.NotOwner asked.ticket)))
-      (λ held. serve-asked-within script sound (step_to n) name asked (started n k) ticket (ap is_for_others is)
+      (λ held. serve-asked-within script sound (step_to n) name asked (started n k) ticket (at-name asked name is)
       (held-is-numbered n.pid n.caller.line n.deeds name k.deeds held))
       (λ _. send-within script sound (step_to n) asked.caller (frames.NotOwner asked.ticket) (started n k)
       (not-owner-is-frame asked.ticket ticket) tt)
@@ -151,7 +154,7 @@ module _ (script : Script) (sound : IsSoundScript script) where
   take-request-within : (n : Node) (sender ticket pid : ℕ) (call : Call) → NodeIs n → is_nonzero ticket ≡ true
       → Taken (take_request script n sender ticket pid call)
   take-request-within n sender ticket pid call k nonzero =
-      of-test StepIs ((is_born n && not (nat_eq sender n.number)) && not (is_waiting call))
+      of-test StepIs ((is_born n && not (nat_eq sender n.number)) && not (is_withdrawal call))
       (requested_by script n (record { caller = sender; ticket = ticket; pid = pid; call = call }) (home_of pid call))
       (λ _. requested-within n (record { caller = sender; ticket = ticket; pid = pid; call = call })
       (home_of pid call) refl k nonzero)
@@ -314,23 +317,26 @@ module _ (script : Script) (sound : IsSoundScript script) where
       (and_parts (is_coming d deed.name) _
       (and_parts (is_leader n) (is_coming d deed.name && is_new_here n deed.name) may).1).1
       in of-next StepIs (read_deed deed) (come_back script n deed.name)
-      (λ body is. release-within script sound (held_for d deed.name)
+      (λ body is. of-test StepIs (has_nodes script body)
+      (release script (held_for d deed.name) (pass_on n deed.name body (goes_on_to d (bound_for d deed.name))))
+      (λ _. release-within script sound (held_for d deed.name)
       (pass_on n deed.name body (goes_on_to d (bound_for d deed.name)))
       (pass-on-within n deed.name body (goes_on_to d (bound_for d deed.name)) k
       (come-within n deed body object fits is))
-      (held-are-within script sound d deed.name k.directory)))
+      (held-are-within script sound d deed.name k.directory))))
 
   take-grant-within : (n : Node) (sender : ℕ) (deed : PackedDeed) → NodeIs n → is_deed deed ≡ true
-      → Taken (take_grant n sender deed)
+      → Taken (take_grant script n sender deed)
   take-grant-within n sender deed k fits =
       of-test StepIs (is_from_leader n sender && is_new_here n deed.name)
-      (option_map (receive_deed n deed.name) (read_deed deed))
+      (option_and_then (receive_deed script n deed.name) (read_deed deed))
       (λ may.
       let object : is_object deed.name ≡ true =
       new-is-object n deed.name (and_parts (is_from_leader n sender) (is_new_here n deed.name) may).1
-      in of-map StepIs (read_deed deed) (receive_deed n deed.name)
-      (λ body is. started (keep n deed.name body)
-      (keep-within n deed.name body k (come-within n deed body object fits is))))
+      in of-next StepIs (read_deed deed) (receive_deed script n deed.name)
+      (λ body is. of-test StepIs (has_nodes script body) (Some (step_to (keep n deed.name body)))
+      (λ _. started (keep n deed.name body)
+      (keep-within n deed.name body k (come-within n deed body object fits is)))))
 
   -- ---- frames about a process's life
 
@@ -476,10 +482,10 @@ module _ (script : Script) (sound : IsSoundScript script) where
       (directory-within script sound n (with_left n.leader.directory sender) k k.directory)) (can, tt)))
 
   take-exit-within : (n : Node) (sender : ℕ) (parcel : Parcel) → NodeIs n → is_frame (frames.ExitTo parcel) ≡ true
-      → Taken (take_exit n sender parcel)
+      → Taken (take_exit script n sender parcel)
   take-exit-within n sender parcel k can =
       of-test StepIs (is_from_leader n sender && not (list_any (leases_hold n.leases) (names_in parcel)))
-      (exit_here (step_to n) parcel)
+      (exit_here script (step_to n) parcel)
       (λ _. exit-here-within script sound (step_to n) parcel (started n k) can)
 
   -- ---- a turn
@@ -520,6 +526,11 @@ module _ (script : Script) (sound : IsSoundScript script) where
   take-turn-within n sender (frames.Left parcel) k f ranges room =
       take-left-within n sender parcel k (left-is-exit parcel f)
   take-turn-within n sender (frames.ExitTo parcel) k f ranges room = take-exit-within n sender parcel k f
+  take-turn-within n sender (frames.Cancel asked) k f ranges room = take-cancel-within script sound n asked k f
+
+  struck-within : (o : Option Step) → Taken o → Taken (option_map (strike script) o)
+  struck-within None h = tt
+  struck-within (Some s) h = strike-within script sound s h
 
 -- a frame that comes is within the limits, and there is room for what it makes the node send
 what-comes-is-within-and-has-room : (n : Node) (sender : ℕ) (frame : Frame) → may_come n sender frame ≡ true
@@ -532,10 +543,11 @@ what-comes-is-within-and-has-room n sender frame may =
 -- A node within limits that takes a frame stays so, and so is what it sends.
 pub taken-within : TakingKeepsLimits
 taken-within script n sender frame s sound k ranges is =
-    let taken = if-some (may_come n sender frame) (take_by_kind script n sender frame) s is
+    let taken = if-some (may_come n sender frame) (take_by_rules script n sender frame) s is
     in let come = what-comes-is-within-and-has-room n sender frame taken.0
-    in of-some (IsStepWithin script) (take_by_kind script n sender frame) s
-    (take-turn-within script sound n sender frame k come.0 ranges come.1) taken.1
+    in of-some (IsStepWithin script) (take_by_rules script n sender frame) s
+    (struck-within script sound (take_by_kind script n sender frame)
+    (take-turn-within script sound n sender frame k come.0 ranges come.1)) taken.1
 
 -- The same where it starts a call.
 pub started-within : RunningKeepsLimits

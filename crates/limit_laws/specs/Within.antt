@@ -1,14 +1,12 @@
 -- What holds of a node's state so that all that it sends is within the limits of frames. Nothing is said of other
 -- nodes, of what is on its way, or of the kernel.
 use Rattle.std.specs.List.{AllByRecursion}
-use Rattle.std.specs.Prelude.{◌≡◌, ◌<◌, ◌≤◌, ℕ, true, false, List, length, Some}
+use Rattle.std.specs.Prelude.{◌≡◌, ◌<◌, ◌≤◌, ℕ, true, false, List, length, Option, Some, None}
 use Rattle.frame_bytes.specs.Limits.{is_frame, is_reply}
 use Rattle.frame_bytes.specs.Replies.{reply_bytes}
-use Rattle.kernel_laws.specs.Queues.{IsQueueWithinLimits}
-use Rattle.kernel_laws.specs.Sets.{IsSetWithinLimits}
 use Rattle.kernel_model.specs.Fitting.{is_killed}
 use Rattle.kernel_model.specs.Script.{Vars}
-use Rattle.limit_laws.specs.Bodies.{IsFamilyWithin}
+use Rattle.limit_laws.specs.Bodies.{IsFamilyWithin, IsQueueWithin, IsSetWithin}
 use Rattle.node_model.specs.Bodies.{Body, Deeds, Living, Ended, Gone, AQueue, ASet, Removed}
 use Rattle.node_model.specs.Caller.{Caller, lines_of}
 use Rattle.node_model.specs.Directory.{Directory, Place, At, Coming}
@@ -26,6 +24,8 @@ use Rattle.pico_base.specs.declared.script.Script.{Script}
 use Rattle.rpc_frame.specs.declared.asked.Asked.{Asked}
 use Rattle.rpc_frame.specs.declared.frame.Frame.TheVariants as frames
 use Rattle.rpc_frame.specs.declared.frame.Frame.{Frame}
+use Rattle.waiting_model.specs.declared.callers.Wake.{Wake}
+use Rattle.waiting_model.specs.Calls.{withdrawn_from}
 use Rattle.world_model.specs.Calls.{is_for_others}
 use Rattle.world_model.specs.Node.{Node}
 use Rattle.world_model.specs.Step.{Step}
@@ -33,14 +33,14 @@ use Rattle.world_model.specs.Step.{Step}
 -- ---- what it holds
 
 -- The only process here that lives is this node's own, with at most so many children; queues and sets are within the
--- kernel's limits.
+-- kernel's limits, and so are those who wait there.
 abbrev pub IsBodyWithin : ℕ → ℕ → Name → Body → Type 0
 IsBodyWithin own most (Proc pid) (Living row) = (pid ≡ own) × IsFamilyWithin most row.family
 IsBodyWithin own most (Proc pid) (Ended ending) = Unit {0}
 IsBodyWithin own most (Proc pid) Gone = Unit {0}
-IsBodyWithin own most (Msg id) (AQueue queue) = IsQueueWithinLimits queue
+IsBodyWithin own most (Msg id) (AQueue queue) = IsQueueWithin queue
 IsBodyWithin own most (Msg id) Removed = Unit {0}
-IsBodyWithin own most (Sem id) (ASet set) = IsSetWithinLimits set
+IsBodyWithin own most (Sem id) (ASet set) = IsSetWithin set
 IsBodyWithin own most (Sem id) Removed = Unit {0}
 IsBodyWithin own most name body = ⊥
 
@@ -80,9 +80,14 @@ pub record IsUnderWayWithin (script : Script) (number pid : ℕ) (c : Caller) (c
 
 -- ---- what the leader knows
 
--- a call that is held can be sent on, and so can an end
+-- A call that is held can be sent on, and so can the end of a wait and the end of a process.
+
+abbrev pub CanGoOn : Asked → Option Name → Type 0
+CanGoOn asked None = is_frame (frames.Forward asked) ≡ true
+CanGoOn asked (Some name) = is_frame (frames.Cancel asked) ≡ true
+
 abbrev pub IsItemWithin : Held → Type 0
-IsItemWithin (Request asked) = is_frame (frames.Forward asked) ≡ true
+IsItemWithin (Request asked) = CanGoOn asked (withdrawn_from asked.call)
 IsItemWithin (Ending parcel) = is_frame (frames.ExitTo parcel) ≡ true
 
 -- all that is held for a name
@@ -143,3 +148,8 @@ pub record IsStepWithin (script : Script) (s : Step) : Type 0 where
 pub record IsReplyShort (reply : Reply) : Type 0 where
   pub within : is_reply reply ≡ true
   pub short : length (reply_bytes reply) ≤ 8300
+
+-- one who is woken has such a reply, under a ticket
+pub record IsWakeWithin (w : Wake) : Type 0 where
+  pub ticket : 1 ≤ w.ticket
+  pub reply : IsReplyShort w.reply

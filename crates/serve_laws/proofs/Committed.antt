@@ -1,5 +1,5 @@
 -- What the end of a process leaves of the deeds, by number.
-use Rattle.std.proofs.Common.{◌≡◌, ◌∙◌, ℕ, Bool, true, false, nat_eq, List, [], ◌∷◌, ◌++◌, map, fold, Option, Some, None, refl, sym, ap}
+use Rattle.std.proofs.Common.{◌≡◌, ◌∙◌, ℕ, Bool, true, false, nat_eq, List, [], ◌∷◌, ◌++◌, map, Some, None, refl, sym, ap}
 use Rattle.std.specs.Prelude.{if◌then◌else◌}
 use Rattle.std.proofs.lemmas.List.Sums.{fold-append}
 use Rattle.pico_base.specs.declared.numbers.Name.{Name}
@@ -8,28 +8,59 @@ use Rattle.pico_base.specs.declared.reply.Ending.{Ending}
 use Rattle.rpc_frame.specs.declared.deed.Parcel.{Parcel}
 use Rattle.number_maps.specs.Maps.{Numbered, get, put}
 use Rattle.number_maps.proofs.LookUps.{get-put-same, get-put-apart}
-use Rattle.kernel_model.specs.Row.{Row, ignores_children, with_ended_child}
-use Rattle.kernel_model.specs.Kernel.{Process}
-use Rattle.kernel_model.specs.Kernel as kernel
-use Rattle.kernel_model.specs.ProcessCalls.{process_after_end}
+use Rattle.pico_base.specs.declared.signal.Sig.TheVariants.{Chld}
+use Rattle.kernel_model.specs.Row.{Alive, Free, Row, family_after_end, ignores_children, with_ended_child}
+use Rattle.kernel_model.specs.Row as plain_row
+use Rattle.kernel_model.specs.ProcessCalls as plain_calls
+use Rattle.waiting_model.specs.Marks as marks
+use Rattle.waiting_model.specs.Kernel.{Process}
+use Rattle.waiting_model.specs.Kernel as kernel
+use Rattle.waiting_model.specs.ProcessCalls.{parent_after_end, process_after_end, raise_chld}
 use Rattle.node_model.specs.Kinds.{put_all, put_named, put_pair}
-use Rattle.node_model.specs.Bodies.{Body, Living, Ended, Gone, AQueue, ASet, Removed, Deeds, free_to_act, process_body}
-use Rattle.node_model.specs.Parcels.{all_gone, commit_exit, ending_of, lets_end}
+use Rattle.node_model.specs.Bodies.{Body, Living, Ended, Gone, AQueue, ASet, Removed, Deeds, process_body, whole_process}
+use Rattle.node_model.specs.Parcels.{Committed, all_gone, commit_exit, ending_of, lets_end, parked_in}
 use Rattle.serve_laws.proofs.Puts.{put_each}
+
+-- a living process that is free to act
+abbrev pub free_alive : Row → Alive
+free_alive row = record { row = row; allowance = Free }
 
 -- what becomes of the process, and of a parent that lives
 abbrev pub kept_under : Row → Ending → Body
-kept_under row ending = process_body (Some (process_after_end (ignores_children row) ending))
+kept_under row ending = process_body (Some (plain_calls.process_after_end (ignores_children row) ending))
 
 -- the body of the parent once it has noted its child's end
 abbrev pub parent_after : Row → ℕ → Ending → Body
-parent_after row pid ending = Living (with_ended_child (free_to_act row) pid ending).row
+parent_after row pid ending = Living (with_ended_child (free_alive row) pid ending).row
 
 -- the processes that are held afterwards
 abbrev pub processes_after : Numbered Body → List ℕ → ℕ → ℕ → Body → Ending → Numbered Body
 processes_after bodies pids pid parent (Living row) ending =
     put (put (put_each Gone bodies pids) pid (kept_under row ending)) parent (parent_after row pid ending)
 processes_after bodies pids pid parent body ending = put (put_each Gone bodies pids) pid Gone
+
+-- ---- the kernel in which callers wait, where the parent doesn't
+
+-- it keeps as much of the process
+pub kept-whole : (b : Bool) (ending : Ending)
+    → whole_process (Some (process_after_end b ending)) ≡ process_body (Some (plain_calls.process_after_end b ending))
+kept-whole true ending = refl
+kept-whole false ending = refl
+
+-- whether or not the parent ignores its children
+raised-whole : (b : Bool) (a : marks.Alive)
+    → (raise_chld b a).row
+    ≡ (if b then marks.plain_alive a else plain_row.raise_by_other (marks.plain_alive a) Chld).row
+raised-whole true a = refl
+raised-whole false a = refl
+
+-- and as much of the parent
+pub parent-whole : (row : Row) (pid : ℕ) (ending : Ending)
+    → whole_process (Some (kernel.Living (parent_after_end (parked_in None row) pid ending)))
+    ≡ parent_after row pid ending
+parent-whole row pid ending =
+    ap Living (raised-whole (ignores_children row)
+    (marks.with_family (parked_in None row) (family_after_end row.family pid ending (ignores_children row))))
 
 all-gone : (pids : List ℕ) (m : Deeds)
     → put_all m (all_gone pids) ≡ record m { processes = put_each Gone m.processes pids }
@@ -50,23 +81,21 @@ one-more : (m : Deeds) (pids : List ℕ) (a : Name) (x : Body)
 one-more m pids a x =
     fold-append put_pair m (all_gone pids) ((a, x) ∷ []) ∙ ap (λ (d : Deeds). put_named d a x) (all-gone pids m)
 
-with_processes : Deeds → Numbered Body → Deeds
-with_processes m bodies = record m { processes = bodies }
-
 some_same : {A : Type 0} (x y : A) → Some x ≡ Some y → x ≡ y
 some_same x y h = cc
 
 -- the first of two numbers that are written one after the other
-first-there : (pid parent : ℕ) (v w : Process) → nat_eq pid parent ≡ false
-    → process_body (get (put (put [] pid v) parent w) pid) ≡ process_body (Some v)
+pub first-there : (pid parent : ℕ) (v w : Process) → nat_eq pid parent ≡ false
+    → whole_process (get (put (put [] pid v) parent w) pid) ≡ whole_process (Some v)
 first-there pid parent v w apart =
-    ap process_body (get-put-apart (put [] pid v) parent pid w apart ∙ get-put-same [] pid v)
+    ap whole_process (get-put-apart (put [] pid v) parent pid w apart ∙ get-put-same [] pid v)
 
-second-there : (pid parent : ℕ) (v w : Process)
-    → process_body (get (put (put [] pid v) parent w) parent) ≡ process_body (Some w)
-second-there pid parent v w = ap process_body (get-put-same (put [] pid v) parent w)
+-- and the second, even where both numbers are one
+pub second-there : (pid parent : ℕ) (v w : Process)
+    → whole_process (get (put (put [] pid v) parent w) parent) ≡ whole_process (Some w)
+second-there pid parent v w = ap whole_process (get-put-same (put [] pid v) parent w)
 
-module _ (m : Deeds) (parcel : Parcel) (bodies : Numbered Body) (changes : List (Name × Body))
+module _ (m : Deeds) (parcel : Parcel) (bodies : Numbered Body) (c : Committed)
     (apart : nat_eq parcel.pid parcel.parent ≡ false) where
   abbrev pids : List ℕ
   pids = map (λ e. e.0) bodies
@@ -76,44 +105,50 @@ module _ (m : Deeds) (parcel : Parcel) (bodies : Numbered Body) (changes : List 
 
   abbrev After : Body → Type 0
   After parent =
-      put_all m changes
+      put_all m c.changes
       ≡ record m { processes = processes_after m.processes pids parcel.pid parcel.parent parent ending }
 
-  -- the first part of the kernel that has the process alone
-  gone-there : process_body (get (put [] parcel.pid kernel.Gone) parcel.pid) ≡ Gone
-  gone-there = ap process_body (get-put-same [] parcel.pid kernel.Gone)
+  abbrev with_processes : Numbered Body → Deeds
+  with_processes bodies = record m { processes = bodies }
 
-  over : Some (all_gone pids ++ (Proc parcel.pid, process_body (get (put [] parcel.pid kernel.Gone) parcel.pid)) ∷ [])
-      ≡ Some changes
-      → put_all m changes ≡ record m { processes = put (put_each Gone m.processes pids) parcel.pid Gone }
+  -- the changes of an end that wakes nobody
+  abbrev made_of : List (Name × Body) → Committed
+  made_of changes = record { changes = changes; wakes = [] }
+
+  -- the first part of the kernel that has the process alone
+  gone-there : whole_process (get (put [] parcel.pid kernel.Gone) parcel.pid) ≡ Gone
+  gone-there = ap whole_process (get-put-same [] parcel.pid kernel.Gone)
+
+  over : Some (made_of (all_gone pids
+      ++ (Proc parcel.pid, whole_process (get (put [] parcel.pid kernel.Gone) parcel.pid)) ∷ [])) ≡ Some c
+      → put_all m c.changes ≡ with_processes (put (put_each Gone m.processes pids) parcel.pid Gone)
   over made =
-      ap (put_all m) (sym (some_same _ changes made))
-      ∙ one-more m pids (Proc parcel.pid) (process_body (get (put [] parcel.pid kernel.Gone) parcel.pid))
-      ∙ ap (λ (x : Body). record m { processes = put (put_each Gone m.processes pids) parcel.pid x }) gone-there
+      ap (λ (x : Committed). put_all m x.changes) (sym (some_same _ c made))
+      ∙ one-more m pids (Proc parcel.pid) (whole_process (get (put [] parcel.pid kernel.Gone) parcel.pid))
+      ∙ ap (λ (x : Body). with_processes (put (put_each Gone m.processes pids) parcel.pid x)) gone-there
 
   living : (row : Row) (b : Bool) → lets_end parcel.pid (Living row) ≡ b
-      → commit_exit parcel bodies (Living row) ≡ Some changes
+      → commit_exit parcel bodies None (Living row) ≡ Some c
       → After (Living row)
   living row true lets made =
       let v : Process = process_after_end (ignores_children row) ending
-      in let w : Process = kernel.Living (with_ended_child (free_to_act row) parcel.pid ending)
+      in let w : Process = kernel.Living (parent_after_end (parked_in None row) parcel.pid ending)
       in let ps : Numbered Process = put (put [] parcel.pid v) parcel.parent w
-      in let x : Body = process_body (get ps parcel.pid)
-      in let y : Body = process_body (get ps parcel.parent)
-      in let is : Some (all_gone pids ++ (Proc parcel.pid, x) ∷ (Proc parcel.parent, y) ∷ []) ≡ Some changes =
+      in let x : Body = whole_process (get ps parcel.pid)
+      in let y : Body = whole_process (get ps parcel.parent)
+      in let gone : Numbered Body = put_each Gone m.processes pids
+      in let is : Some (made_of (all_gone pids ++ (Proc parcel.pid, x) ∷ (Proc parcel.parent, y) ∷ [])) ≡ Some c =
       rw lets at made
-      in ap (put_all m) (sym (some_same _ changes is))
+      in ap (λ (z : Committed). put_all m z.changes) (sym (some_same _ c is))
       ∙ two-more m pids (Proc parcel.pid) (Proc parcel.parent) x y
-      ∙ ap (λ (z : Body). record m {
-        processes = put (put (put_each Gone m.processes pids) parcel.pid z) parcel.parent y;
-      }) (first-there parcel.pid parcel.parent v w apart)
-      ∙ ap (λ (z : Body). record m {
-        processes = put (put (put_each Gone m.processes pids) parcel.pid (process_body (Some v))) parcel.parent z;
-      }) (second-there parcel.pid parcel.parent v w)
-  living row false lets made = let none : None ≡ Some changes = rw lets at made in absurd (cc)
+      ∙ ap (λ (z : Body). with_processes (put (put gone parcel.pid z) parcel.parent y))
+      (first-there parcel.pid parcel.parent v w apart ∙ kept-whole (ignores_children row) ending)
+      ∙ ap (λ (z : Body). with_processes (put (put gone parcel.pid (kept_under row ending)) parcel.parent z))
+      (second-there parcel.pid parcel.parent v w ∙ parent-whole row parcel.pid ending)
+  living row false lets made = let none : None ≡ Some c = rw lets at made in absurd (cc)
 
   -- the deeds after an end that is carried out
-  pub committed : (parent : Body) → commit_exit parcel bodies parent ≡ Some changes → After parent
+  pub committed : (parent : Body) → commit_exit parcel bodies None parent ≡ Some c → After parent
   committed (Living row) made = living row (lets_end parcel.pid (Living row)) refl made
   committed (Ended e) made = over made
   committed Gone made = over made

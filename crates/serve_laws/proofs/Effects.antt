@@ -1,5 +1,5 @@
 -- What each call's effect leaves of the kernel's parts.
-use Rattle.std.proofs.Common.{◌≡◌, ◌≢◌, ◌∙◌, ℕ, suc, arith, Bool, true, false, not, ◌&&◌, nat_eq, List, [], ◌∷◌, Option, Some, None, Result, Ok, Err, refl, sym, ap, subst, inl, inr}
+use Rattle.std.proofs.Common.{◌≡◌, ◌≢◌, ◌∙◌, ℕ, suc, arith, Bool, true, false, not, ◌&&◌, nat_eq, List, [], ◌∷◌, Option, Some, None, Result, Ok, Err, refl, sym, ap, subst}
 use Rattle.std.specs.Prelude.{if◌then◌else◌, Contains}
 use Rattle.std.specs.List.{list_any}
 use Rattle.pico_base.specs.declared.call.Call.{Call}
@@ -12,7 +12,6 @@ use Rattle.pico_base.specs.declared.reply.Ending.{Ending}
 use Rattle.pico_base.specs.declared.reply.EndedChild.{EndedChild}
 use Rattle.pico_base.specs.declared.reply.Errno.{Errno}
 use Rattle.pico_base.specs.declared.reply.Errno.TheVariants.{Einval, Esrch, Echild}
-use Rattle.pico_base.specs.declared.reply.Reply.{Reply}
 use Rattle.pico_base.specs.declared.reply.Reply.TheVariants as replies
 use Rattle.pico_base.specs.declared.signal.SigArg.{SigArg}
 use Rattle.pico_base.specs.declared.signal.SigArg.TheVariants.{Zero, Is, Bad}
@@ -26,16 +25,16 @@ use Rattle.kernel_model.specs.Row.{Alive, Waited, Found, NotYet, NoChild, ended_
 use Rattle.kernel_model.specs.Kernel.{Kernel, Process, living_at, with_alive}
 use Rattle.kernel_model.specs.Kernel as kernel
 use Rattle.kernel_model.specs.Effect.{Effect, look_up, on_named, reply_with, refuse}
-use Rattle.kernel_model.specs.ProcessCalls.{action_effect, kill, kill_at, parent_after_wait, reap_child, signal_living, with_signals}
+use Rattle.kernel_model.specs.ProcessCalls.{action_effect, kill_at, parent_after_wait, reap_child, signal_living, with_signals}
 use Rattle.kernel_model.specs.QueueCalls.{change_queue, receive_effect, remove_queue, stat_effect}
 use Rattle.kernel_model.specs.SetCalls.{all_values, change_set, operate, remove_set}
 use Rattle.kernel_model.specs.Waiting.{may_wait}
 use Rattle.kernel_model.specs.Transition.{effect}
-use Rattle.kernel_model.specs.Valid.{IsValid, IsValidProcess}
-use Rattle.node_model.specs.Bodies.{Body, Living, Ended, Gone, AQueue, ASet, body_in, process_body, queue_body, set_body}
+use Rattle.kernel_model.specs.Valid.{IsValid}
+use Rattle.node_model.specs.Bodies.{Body, Living, Ended, Gone, body_in, process_body, queue_body, set_body}
 use Rattle.node_model.specs.Serving.{name_for, name_in}
 use Rattle.node_model.specs.Carrying.{Done, act, done, in_body, is_own, is_own_home, is_served, on_body, on_row, reap, signal}
-use Rattle.serve_laws.proofs.Follow.{Acts, stays, at-queue, at-set, queue-changes, queue-receives, queue-removed, set-changes, set-looks, set-removed, same_living, process-changes, child-found}
+use Rattle.serve_laws.proofs.Follow.{Acts, a_queue, a_set, stays, at-queue, at-set, queue-changes, queue-receives, queue-removed, set-changes, set-looks, set-removed, same_living, process-changes, child-found}
 
 -- ---- the caller's own calls
 
@@ -72,7 +71,7 @@ valid-apart k pid a valid lives child ending among same =
     in cc
 
 -- what a wait finds is one of the ended children
-found_there : (a : Alive) (which : Option ℕ) (child : ℕ) (ending : Ending)
+pub found_there : (a : Alive) (which : Option ℕ) (child : ℕ) (ending : Ending)
     → wait a.row.family which ≡ Found child ending
     → Contains a.row.family.ended (ended_child child ending)
 found_there a which child ending h =
@@ -293,7 +292,7 @@ module _ (k : Kernel) (pid n : ℕ) (a : Alive) where
   effect-serves (calls.MsgStat id) name e s l named eff =
       conclude k pid (calls.MsgStat id) (Msg id) name _ e named eff
       (at-queue k id pid (calls.MsgStat id) (stat_effect k)
-      (λ q there. stays k (Msg id) (AQueue q) (stat q) (λ other. refl) (ap queue_body there)) (get k.queues id) refl)
+      (λ q there. stays k (Msg id) (a_queue q) (stat q) (λ other. refl) (ap queue_body there)) (get k.queues id) refl)
   effect-serves (calls.MsgSet id qbytes) name e s l named eff =
       conclude k pid (calls.MsgSet id qbytes) (Msg id) name _ e named eff
       (at-queue k id pid (calls.MsgSet id qbytes) (λ q. change_queue k id (set_qbytes q qbytes))
@@ -332,7 +331,7 @@ module _ (k : Kernel) (pid n : ℕ) (a : Alive) where
   effect-serves (calls.SemGetAll id) name e s l named eff =
       conclude k pid (calls.SemGetAll id) (Sem id) name _ e named eff
       (at-set k id pid (calls.SemGetAll id) (all_values k)
-      (λ s there. stays k (Sem id) (ASet s) (replies.All (values_of s.semaphores)) (λ other. refl) (ap set_body there))
+      (λ s there. stays k (Sem id) (a_set s) (replies.All (values_of s.semaphores)) (λ other. refl) (ap set_body there))
       (get k.sets id) refl)
   effect-serves (calls.SemSetAll id values) name e s l named eff =
       conclude k pid (calls.SemSetAll id values) (Sem id) name _ e named eff

@@ -19,12 +19,10 @@ use Rattle.kernel_model.specs.Row.{Row, ended_child}
 use Rattle.kernel_model.specs.Kernel.{Kernel, alive_in, living_at}
 use Rattle.kernel_model.specs.Effect.{reply_alone}
 use Rattle.kernel_model.specs.ProcessCalls.{end_process}
-use Rattle.kernel_model.specs.Transition.{successor, transition}
-use Rattle.kernel_model.specs.Valid.{IsValid}
 use Rattle.node_model.specs.Kinds.{get_named, put_all}
 use Rattle.node_model.specs.Bodies.{Body, Living, Ended, Gone, AQueue, ASet, Removed, Deeds, body_in, queue_body, set_body}
-use Rattle.node_model.specs.Parcels.{are_rising, commit_exit, ending_of, fits_bodies, has_own_row, is_held_none, is_over_but_for, may_end_with}
-use Rattle.serve_laws.specs.Ends.{AgreesOnEnd, EndsAreTheKernels, IsEnded, concerns, is_among, is_brought}
+use Rattle.node_model.specs.Parcels.{are_rising, ending_of, fits_bodies, has_own_row, is_held_none, is_over_but_for, may_end_with}
+use Rattle.serve_laws.specs.Ends.{EndsAreTheKernels, IsEnded, concerns, is_among, is_brought}
 use Rattle.serve_laws.proofs.Puts.{put_each, each-in, each-out, neither}
 use Rattle.serve_laws.proofs.Committed.{committed, kept_under, parent_after, processes_after}
 use Rattle.serve_laws.proofs.KernelEnds.{HasEnded, ended-by, ends-under, kept_by, kept_by-dead, left_by, lives-as, not-living}
@@ -256,12 +254,12 @@ flip a b h = grind arith
 
 -- the end of a process, carried out beside its parent's deed, is the kernel's
 pub ends-are-the-kernels : EndsAreTheKernels
-ends-are-the-kernels k deeds parcel bodies changes n next outcome valid fits agrees made gives =
+ends-are-the-kernels k deeds parcel bodies c n next outcome valid fits agrees made gives =
     let f = fits-parts deeds parcel bodies fits
     in let w = lives-as (get k.processes parcel.pid) agrees.row agrees.lives
     in let es : List EndedChild = agrees.row.family.ended
     in let brought : (q : ℕ) → is_among es q ≡ true → is_used (map (λ e. e.0) bodies) q ≡ true =
-    λ q h. let c = among-ended es q h in in-keys bodies q (Ended c.0) (agrees.children q c.0 c.1)
+    λ q h. let e = among-ended es q h in in-keys bodies q (Ended e.0) (agrees.children q e.0 e.1)
     in let unused : is_used (map (λ e. e.0) bodies) parcel.parent ≡ false =
     held-apart deeds bodies parcel.parent agrees.parent f.absent agrees.held
     in let apart : nat_eq parcel.pid parcel.parent ≡ false =
@@ -288,14 +286,14 @@ ends-are-the-kernels k deeds parcel bodies changes n next outcome valid fits agr
     HasEnded k (end_process k parcel.pid w.alive (ending_of parcel.call)).kernel parcel.pid parcel.parent
     r.family.ended (kept_by agrees.parent (ending_of parcel.call))
     (left_by agrees.parent parcel.pid (ending_of parcel.call))) w.row_is ends)
-    in let held : AreAfter deeds (put_all deeds changes) parcel.pid parcel.parent (map (λ e. e.0) bodies)
+    in let held : AreAfter deeds (put_all deeds c.changes) parcel.pid parcel.parent (map (λ e. e.0) bodies)
     (kept_by agrees.parent (ending_of parcel.call)) (left_by agrees.parent parcel.pid (ending_of parcel.call)) =
     subst (λ (d : Deeds).
     AreAfter deeds d parcel.pid parcel.parent (map (λ e. e.0) bodies) (kept_by agrees.parent (ending_of parcel.call))
     (left_by agrees.parent parcel.pid (ending_of parcel.call)))
-    (sym (committed deeds parcel bodies changes apart agrees.parent made))
+    (sym (committed deeds parcel bodies c apart agrees.parent made))
     (after-end deeds parcel.pid parcel.parent (map (λ e. e.0) bodies) (ending_of parcel.call) agrees.parent agrees.held
     apart off unused)
-    in both-ended k next deeds (put_all deeds changes) parcel bodies agrees.row
+    in both-ended k next deeds (put_all deeds c.changes) parcel bodies agrees.row
     (kept_by agrees.parent (ending_of parcel.call)) (left_by agrees.parent parcel.pid (ending_of parcel.call)) outcome
     step.outcome_is kernels held brought

@@ -1,5 +1,5 @@
 -- What single changes of a kernel leave of its names' parts.
-use Rattle.std.proofs.Common.{◌≡◌, ◌≢◌, ◌∙◌, ℕ, Bool, true, false, nat_eq, List, Option, Some, None, Result, Ok, Err, refl, sym, ap, subst, arith}
+use Rattle.std.proofs.Common.{◌≡◌, ◌≢◌, ◌∙◌, ℕ, Bool, true, false, nat_eq, Option, Some, None, Result, Ok, Err, refl, ap, arith}
 use Rattle.std.specs.Option.{option_and_then}
 use Rattle.pico_base.specs.declared.call.Call.{Call}
 use Rattle.pico_base.specs.declared.numbers.Name.{Name}
@@ -9,23 +9,32 @@ use Rattle.pico_base.specs.declared.reply.Errno.{Errno}
 use Rattle.pico_base.specs.declared.reply.Errno.TheVariants.{Einval}
 use Rattle.pico_base.specs.declared.reply.Reply.{Reply}
 use Rattle.pico_base.specs.declared.reply.Reply.TheVariants as replies
-use Rattle.number_maps.specs.Maps.{Numbered, get, put, without}
+use Rattle.number_maps.specs.Maps.{get, put, without}
 use Rattle.kernel_model.specs.Queue.{Queue, Received}
 use Rattle.kernel_model.specs.SemaphoreSet.{SemaphoreSet}
 use Rattle.kernel_model.specs.Row.{Alive}
 use Rattle.kernel_model.specs.Kernel.{Kernel, Process, alive_in}
 use Rattle.kernel_model.specs.Kernel as kernel
-use Rattle.kernel_model.specs.Effect.{Effect, look_up, on_named, refuse, reply_with}
+use Rattle.kernel_model.specs.Effect.{Effect, look_up, on_named}
 use Rattle.kernel_model.specs.QueueCalls.{change_queue, receive_effect, remove_queue}
 use Rattle.kernel_model.specs.SetCalls.{change_set, remove_set}
+use Rattle.waiting_model.specs.Waiters.{unawaited}
 use Rattle.number_maps.proofs.LookUps.{get-put-same, get-put-other, get-without-same, get-without-other}
 use Rattle.node_model.specs.Bodies.{Body, Living, Gone, AQueue, ASet, Removed, body_in, process_body, queue_body, set_body}
-use Rattle.node_model.specs.Carrying.{Done, done, change, look, take_message, in_body, is_removal, on_body, on_queue, on_set}
+use Rattle.node_model.specs.Carrying.{Done, done, change, look, take_message, in_body, on_body}
 use Rattle.serve_laws.specs.Laws.{Follows, is_found}
 
 -- the effect leaves what was done to the name's body, with its reply
 abbrev pub Acts : Kernel → Name → Done Body → Effect → Type 0
 Acts k name d e = Follows k name d e.kernel e.reply
+
+-- a queue and a set at which nobody waits
+abbrev pub a_queue : Queue → Body
+a_queue q = AQueue (unawaited q)
+
+-- and such a set
+abbrev pub a_set : SemaphoreSet → Body
+a_set s = ASet (unawaited s)
 
 -- nothing changes
 pub stays : (k : Kernel) (name : Name) (body : Body) (r : Reply) → ((other : Name) → is_found r other ≡ false)
@@ -43,7 +52,7 @@ stays k name body r none is = record {
 
 -- a queue changes
 queue_put : (k : Kernel) (id : ℕ) (q : Queue) (r : Reply) → ((other : Name) → is_found r other ≡ false)
-    → Acts k (Msg id) (done (AQueue q) r) (record { kernel = record k { queues = put k.queues id q }; reply = r })
+    → Acts k (Msg id) (done (a_queue q) r) (record { kernel = record k { queues = put k.queues id q }; reply = r })
 queue_put k id q r none = record {
   reply = refl;
   there = ap queue_body (get-put-same k.queues id q);
@@ -61,7 +70,7 @@ queue_put k id q r none = record {
     others (Msg i) apart not_found = ap queue_body (get-put-other k.queues id q i (λ (e : i ≡ id). apart (ap Msg e)))
 
 set_put : (k : Kernel) (id : ℕ) (s : SemaphoreSet) (r : Reply) → ((other : Name) → is_found r other ≡ false)
-    → Acts k (Sem id) (done (ASet s) r) (record { kernel = record k { sets = put k.sets id s }; reply = r })
+    → Acts k (Sem id) (done (a_set s) r) (record { kernel = record k { sets = put k.sets id s }; reply = r })
 set_put k id s r none = record {
   reply = refl;
   there = ap set_body (get-put-same k.sets id s);
@@ -82,28 +91,29 @@ set_put k id s r none = record {
 
 -- a call that changes a queue or is refused
 pub queue-changes : (k : Kernel) (id : ℕ) (q : Queue) (r : Result Queue Errno) → get k.queues id ≡ Some q
-    → Acts k (Msg id) (in_body AQueue (change q r)) (change_queue k id r)
+    → Acts k (Msg id) (in_body a_queue (change q r)) (change_queue k id r)
 queue-changes k id q (Ok w) there = queue_put k id w (replies.Num 0) (λ other. refl)
-queue-changes k id q (Err e) there = stays k (Msg id) (AQueue q) (replies.Fail e) (λ other. refl) (ap queue_body there)
+queue-changes k id q (Err e) there = stays k (Msg id) (a_queue q) (replies.Fail e) (λ other. refl) (ap queue_body there)
 
 -- a receive that takes a message or is refused
 pub queue-receives : (k : Kernel) (id : ℕ) (q : Queue) (r : Result Received Errno) → get k.queues id ≡ Some q
-    → Acts k (Msg id) (in_body AQueue (take_message q r)) (receive_effect k id r)
+    → Acts k (Msg id) (in_body a_queue (take_message q r)) (receive_effect k id r)
 queue-receives k id q (Ok w) there =
     queue_put k id w.queue (replies.Message w.message.class w.message.text) (λ other. refl)
-queue-receives k id q (Err e) there = stays k (Msg id) (AQueue q) (replies.Fail e) (λ other. refl) (ap queue_body there)
+queue-receives k id q (Err e) there =
+    stays k (Msg id) (a_queue q) (replies.Fail e) (λ other. refl) (ap queue_body there)
 
 -- a call that changes a set or is refused
 pub set-changes : (k : Kernel) (id : ℕ) (s : SemaphoreSet) (r : Result SemaphoreSet Errno) → get k.sets id ≡ Some s
-    → Acts k (Sem id) (in_body ASet (change s r)) (change_set k id r)
+    → Acts k (Sem id) (in_body a_set (change s r)) (change_set k id r)
 set-changes k id s (Ok w) there = set_put k id w (replies.Num 0) (λ other. refl)
-set-changes k id s (Err e) there = stays k (Sem id) (ASet s) (replies.Fail e) (λ other. refl) (ap set_body there)
+set-changes k id s (Err e) there = stays k (Sem id) (a_set s) (replies.Fail e) (λ other. refl) (ap set_body there)
 
 -- a call that looks at a set or is refused
 pub set-looks : (k : Kernel) (id : ℕ) (s : SemaphoreSet) (r : Result ℕ Errno) → get k.sets id ≡ Some s
-    → Acts k (Sem id) (in_body ASet (look s r)) (look_up k r)
-set-looks k id s (Ok n) there = stays k (Sem id) (ASet s) (replies.Num n) (λ other. refl) (ap set_body there)
-set-looks k id s (Err e) there = stays k (Sem id) (ASet s) (replies.Fail e) (λ other. refl) (ap set_body there)
+    → Acts k (Sem id) (in_body a_set (look s r)) (look_up k r)
+set-looks k id s (Ok n) there = stays k (Sem id) (a_set s) (replies.Num n) (λ other. refl) (ap set_body there)
+set-looks k id s (Err e) there = stays k (Sem id) (a_set s) (replies.Fail e) (λ other. refl) (ap set_body there)
 
 -- the removal of a queue
 pub queue-removed : (k : Kernel) (id : ℕ) → Acts k (Msg id) (done Removed (replies.Num 0)) (remove_queue k id)
@@ -137,7 +147,7 @@ set-removed k id = record {
 
 -- a call on a queue or a set, which may not be there
 pub at-queue : (k : Kernel) (id pid : ℕ) (call : Call) (f : Queue → Effect)
-    → ((q : Queue) → get k.queues id ≡ Some q → Acts k (Msg id) (on_body (Msg id) (AQueue q) pid call) (f q))
+    → ((q : Queue) → get k.queues id ≡ Some q → Acts k (Msg id) (on_body (Msg id) (a_queue q) pid call) (f q))
     → (o : Option Queue) → get k.queues id ≡ o
     → Acts k (Msg id) (on_body (Msg id) (queue_body o) pid call) (on_named k o f)
 at-queue k id pid call f acts None there =
@@ -146,7 +156,7 @@ at-queue k id pid call f acts (Some q) there = acts q there
 
 -- a call on a set, by whether the kernel has the set
 pub at-set : (k : Kernel) (id pid : ℕ) (call : Call) (f : SemaphoreSet → Effect)
-    → ((s : SemaphoreSet) → get k.sets id ≡ Some s → Acts k (Sem id) (on_body (Sem id) (ASet s) pid call) (f s))
+    → ((s : SemaphoreSet) → get k.sets id ≡ Some s → Acts k (Sem id) (on_body (Sem id) (a_set s) pid call) (f s))
     → (o : Option SemaphoreSet) → get k.sets id ≡ o
     → Acts k (Sem id) (on_body (Sem id) (set_body o) pid call) (on_named k o f)
 at-set k id pid call f acts None there =

@@ -8,7 +8,6 @@ use Rattle.pico_base.specs.declared.numbers.Name.TheVariants.{Proc}
 use Rattle.pico_base.specs.declared.reply.Ending.{Ending}
 use Rattle.pico_base.specs.declared.reply.EndedChild.{EndedChild}
 use Rattle.pico_base.specs.declared.reply.Outcome.{Outcome}
-use Rattle.pico_base.specs.declared.reply.Reply.TheVariants as replies
 use Rattle.number_maps.specs.Maps.{Numbered, get, put}
 use Rattle.number_maps.proofs.LookUps.{get-put-same, get-put-apart}
 use Rattle.pico_base.specs.declared.signal.Sig.TheVariants.{Chld}
@@ -21,12 +20,12 @@ use Rattle.kernel_model.specs.ProcessCalls.{bury, end_process, end_under, proces
 use Rattle.kernel_model.specs.Transition.{Successor, successor, effect, finish_call, may_make, outcome_of, transition, transition_by}
 use Rattle.kernel_model.specs.Valid.{IsValid}
 use Rattle.footprint_laws.proofs.Parents.{parent-is}
-use Rattle.node_model.specs.Bodies.{Body, Living, Ended, Gone, AQueue, ASet, Removed, body_in, free_to_act, is_living_body, process_body}
+use Rattle.node_model.specs.Bodies.{Body, Living, Ended, Gone, AQueue, ASet, Removed, body_in, is_living_body, process_body}
 use Rattle.node_model.specs.Parcels.{ending_of, may_end_with}
 use Rattle.serve_laws.specs.Ends.{is_among, parent_by}
 use Rattle.serve_laws.proofs.Puts.{put_each, each-in, each-out}
 use Rattle.serve_laws.proofs.Follow.{same_living}
-use Rattle.serve_laws.proofs.Committed.{kept_under, parent_after}
+use Rattle.serve_laws.proofs.Committed.{free_alive, kept_under, parent_after}
 
 -- ---- what is left at each name
 
@@ -103,6 +102,7 @@ pub record LivesAs (o : Option Process) (row : Row) : Type 0 where
   pub lives : o ≡ Some (kernel.Living alive)
   pub row_is : alive.row ≡ row
 
+-- one living body has one row
 pub living-same : (r s : Row) → Living r ≡ Living s → r ≡ s
 living-same r s is = cc
 
@@ -130,10 +130,10 @@ listed a pid ending =
     }
 
 kept-row : (a : Alive) (pid : ℕ) (ending : Ending)
-    → (with_ended_child a pid ending).row ≡ (with_ended_child (free_to_act a.row) pid ending).row
+    → (with_ended_child a pid ending).row ≡ (with_ended_child (free_alive a.row) pid ending).row
 kept-row a pid ending =
     either-row (ignores_children a.row) (listed a pid ending) (raise_by_other (listed a pid ending) Chld)
-    (listed (free_to_act a.row) pid ending) (raise_by_other (listed (free_to_act a.row) pid ending) Chld) refl refl
+    (listed (free_alive a.row) pid ending) (raise_by_other (listed (free_alive a.row) pid ending) Chld) refl refl
 
 -- a number that stands for a parent is that of one
 record IsFound (o : Option Parent) (parent : ℕ) : Type 0 where

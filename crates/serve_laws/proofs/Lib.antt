@@ -1,8 +1,16 @@
+pub mod AtOnce
 pub mod Committed
 pub mod Effects
 pub mod Ends
 pub mod Follow
+pub mod InLine
 pub mod KernelEnds
-pub mod OnBody
+pub mod Left
+pub mod Lines
+pub mod OnWhole
 pub mod Puts
+pub mod Rounds
+pub mod Serving
 pub mod Steps
+pub mod Waking
+pub mod WholeEffects

@@ -1,5 +1,5 @@
 -- Maps that are written to at one number after another.
-use Rattle.std.proofs.Common.{◌≡◌, ◌≢◌, ◌∙◌, ℕ, ◌<◌, Bool, true, false, ◌||◌, nat_eq, List, [], ◌∷◌, Some, refl, sym, ap, inl, inr, arith}
+use Rattle.std.proofs.Common.{◌≡◌, ◌∙◌, ℕ, ◌<◌, Bool, true, false, ◌||◌, nat_eq, List, [], ◌∷◌, Some, refl, sym, ap, inl, inr, arith}
 use Rattle.std.proofs.lemmas.Bool.{cases_order}
 use Rattle.number_maps.specs.Maps.{Numbered, get, put, is_used}
 use Rattle.number_maps.proofs.LookUps.{put-less, put-equal, put-greater, get-put-same, get-put-apart}

@@ -13,10 +13,10 @@ use Rattle.kernel_model.specs.Effect.{Effect, reply_alone}
 use Rattle.kernel_model.specs.Transition.{Successor, successor, effect, finish_call, may_make, outcome_of, transition_by}
 use Rattle.kernel_model.specs.Valid.{IsValid}
 use Rattle.number_maps.proofs.LookUps.{get-put-same, get-put-other}
-use Rattle.node_model.specs.Bodies.{Body, Living, body_in, process_body}
+use Rattle.node_model.specs.Bodies.{Body, body_in, process_body}
 use Rattle.node_model.specs.Serving.{name_for}
 use Rattle.node_model.specs.Carrying.{Done, is_served, on_body}
-use Rattle.serve_laws.specs.Laws.{Follows, IsServed, ServedCallsAreTheKernels, is_found}
+use Rattle.serve_laws.specs.Laws.{Follows, IsServed, ServedCallsAreTheKernels}
 use Rattle.serve_laws.proofs.Follow.{same_living}
 use Rattle.serve_laws.proofs.Effects.{Serves, effect-serves, valid-apart}
 

@@ -1,6 +1,7 @@
 -- What it comes to for the kernel when the end of a process is carried out where its parent's deed is held
 -- (POSIX.1-2017: _Exit, consequences of the end of a process).
-use Rattle.std.specs.Prelude.{◌≡◌, ◌≢◌, ℕ, Bool, true, false, ◌||◌, nat_eq, List, map, Option, Some, None, is_some, Contains}
+use Rattle.std.specs.Prelude.{◌≡◌, ◌≢◌, ℕ, Bool, true, false, ◌||◌, nat_eq, List, [], ◌∷◌, map, Option, Some, None, is_some, Contains}
+use Rattle.pico_base.specs.declared.call.Call.{Call}
 use Rattle.pico_base.specs.declared.numbers.Name.{Name}
 use Rattle.pico_base.specs.declared.numbers.Name.TheVariants.{Proc}
 use Rattle.pico_base.specs.declared.reply.Ending.{Ending}
@@ -15,8 +16,12 @@ use Rattle.kernel_model.specs.Footprint.{parent_number}
 use Rattle.kernel_model.specs.Transition.{successor, transition}
 use Rattle.kernel_model.specs.Valid.{IsValid}
 use Rattle.node_model.specs.Kinds.{get_named, put_all}
-use Rattle.node_model.specs.Bodies.{Body, Living, Ended, Gone, Deeds, body_in}
-use Rattle.node_model.specs.Parcels.{commit_exit, fits_bodies}
+use Rattle.node_model.specs.Bodies.{Body, Living, Ended, Gone, Deeds, body_in, is_living_body}
+use Rattle.waiting_model.specs.declared.callers.Wake.{Wake}
+use Rattle.waiting_model.specs.Linear.{at_once}
+use Rattle.node_model.specs.Carrying.{done, on_row}
+use Rattle.node_model.specs.Parcels.{Committed, commit_exit, fits_bodies}
+use Rattle.serve_laws.specs.Served.{MakesOwn, found_gone}
 
 -- Whose child the process is, by the body of who was its parent: one that has ended is nobody's parent any more.
 abbrev pub parent_by : ℕ → Body → Option ℕ
@@ -66,8 +71,34 @@ pub record IsEnded (k : Kernel) (deeds : Deeds) (parcel : Parcel) (bodies : Numb
 -- A parcel that fits the deeds is taken where the parent's deed is held, as the kernel's transition ends its process.
 abbrev pub EndsAreTheKernels : Type 0
 EndsAreTheKernels =
-    (k : Kernel) (deeds : Deeds) (parcel : Parcel) (bodies : Numbered Body) (changes : List (Name × Body)) (n : ℕ)
+    (k : Kernel) (deeds : Deeds) (parcel : Parcel) (bodies : Numbered Body) (c : Committed) (n : ℕ)
     (next : Kernel) (outcome : Outcome) → IsValid k → fits_bodies deeds parcel bodies ≡ true
-    → (agrees : AgreesOnEnd k deeds parcel bodies) → commit_exit parcel bodies agrees.parent ≡ Some changes
+    → (agrees : AgreesOnEnd k deeds parcel bodies) → commit_exit parcel bodies None agrees.parent ≡ Some c
     → transition k parcel.pid parcel.call n ≡ Some (successor next outcome)
-    → IsEnded k deeds parcel bodies agrees.row (put_all deeds changes) next outcome
+    → IsEnded k deeds parcel bodies agrees.row (put_all deeds c.changes) next outcome
+
+-- ---- an end that wakes the parent
+
+-- In line it is the end, and then the parent's `waitpid` at once, which gives the reply with which the parent is woken.
+pub record WakesThen (parcel : Parcel) (waits : Call) (deeds : Deeds) (c bereft : Committed) (w : Wake) : Type 0 where
+  pub row : Row
+  pub ended : get_named (put_all deeds bereft.changes) (Proc parcel.parent) ≡ Some (Living row)
+  pub left : Row
+  pub waited : on_row row parcel.parent (at_once waits) ≡ done left w.reply
+  pub after : (name : Name)
+      → get_named (put_all deeds c.changes) name
+      ≡ get_named
+      (put_all (put_all deeds bereft.changes) ((Proc parcel.parent, Living left) ∷ found_gone (Some w.reply))) name
+
+abbrev pub WakesOrNot : Parcel → Call → Deeds → Committed → Committed → List Wake → Type 0
+WakesOrNot parcel waits deeds c bereft [] = c.changes ≡ bereft.changes
+WakesOrNot parcel waits deeds c bereft (w ∷ []) = WakesThen parcel waits deeds c bereft w
+WakesOrNot parcel waits deeds c bereft wakes = ⊥
+
+-- So it is where the process isn't its own parent, nor its parent that one's own child.
+abbrev pub EndsWakeInLine : Type 0
+EndsWakeInLine =
+    (parcel : Parcel) (bodies : Numbered Body) (waits : Call) (parent : Body) (deeds : Deeds) (c bereft : Committed)
+    → parcel.pid ≢ parcel.parent → (is_living_body parent ≡ true → MakesOwn parcel.parent parent)
+    → commit_exit parcel bodies None parent ≡ Some bereft → commit_exit parcel bodies (Some waits) parent ≡ Some c
+    → WakesOrNot parcel waits deeds c bereft c.wakes
