@@ -1,5 +1,5 @@
 -- Which frames are about a name, a call, a way: the others leave what is seen of it.
-use Rattle.std.proofs.Common.{◌≡◌, ◌≢◌, ℕ, Bool, true, false, ◌||◌, ◌&&◌, cond, if◌then◌else◌, List, [], ◌∷◌, ◌++◌, filter, flat_map, nat_eq, Contains, refl, ap, sym, subst, ◌∙◌, inl, inr, arith}
+use Rattle.std.proofs.Common.{◌≡◌, ◌≢◌, ℕ, Bool, true, false, ◌||◌, ◌&&◌, not, cond, if◌then◌else◌, List, [], ◌∷◌, ◌++◌, filter, flat_map, nat_eq, Contains, refl, ap, sym, subst, ◌∙◌, inl, inr, arith}
 use Rattle.std.specs.List.{AllByRecursion}
 use Rattle.std.proofs.lemmas.Bool.{cases_eq, eq-eqb, ne_eqb, false≢true}
 use Rattle.std.proofs.lemmas.List.Elements.{Contains-append_cases, Contains-push_cases}
@@ -8,12 +8,12 @@ use Rattle.pico_base.specs.declared.numbers.Name.{Name}
 use Rattle.pico_base.specs.declared.numbers.Name.TheVariants.{Proc}
 use Rattle.rpc_frame.specs.declared.frame.Frame.{Frame}
 use Rattle.rpc_frame.specs.declared.frame.Frame.TheVariants as frames
-use Rattle.node_model.specs.Kinds.{is_same_name}
+use Rattle.node_model.specs.Kinds.{is_same_name, is_object}
 use Rattle.node_model.specs.Directory.{has_deed_of}
 use Rattle.world_model.specs.Census.{brings}
 use Rattle.world_model.specs.World.{is_checkpoint}
 use Rattle.world_laws.specs.Places.{CallPlace}
-use Rattle.world_laws.specs.Plays.{is_call_on, is_sent_by_place, steps_of, steps_if, Comes, Goes, IsNeeded, plays, is_checkpoint_of, placed_by, placed_in, news_of, news_if, Tells, NeedsPlace, news}
+use Rattle.world_laws.specs.Plays.{is_call_on, is_cancel_on, is_lasting, needs_by, steps_of, steps_if, Comes, Goes, IsNeeded, plays, is_checkpoint_of, placed_by, placed_in, news_of, news_if, Tells, NeedsPlace, news}
 use Rattle.world_laws.specs.Names.{leases_name, is_sent_by_range, range_steps_of, range_steps_if, IsSentThere, IsLeased}
 use Rattle.world_laws.specs.Callers.{is_about}
 use Rattle.world_laws.specs.Ways.{is_leaving_frame, is_recall_all, is_left_frame}
@@ -75,6 +75,7 @@ concerns name (frames.Leaving pid parent parent_node) = true
 concerns name frames.RecallAll = true
 concerns name (frames.Left parcel) = has_deed_of name parcel
 concerns name (frames.ExitTo parcel) = has_deed_of name parcel || is_same_name name (Proc parcel.parent)
+concerns name (frames.Cancel asked) = is_cancel_on name asked
 concerns name frame = false
 
 or-left : (a b : Bool) → (a || b) ≡ false → a ≡ false
@@ -110,42 +111,50 @@ none-of-both : (a b : Bool) → a ≡ false → (a && b) ≡ false
 none-of-both true b h = absurd (false≢true (sym h))
 none-of-both false b h = refl
 
+and-false : (a b : Bool) → b ≡ false → (a && b) ≡ false
+and-false true b h = h
+and-false false b h = refl
+
 exit-steps : (a b : Bool) → a ≡ false → b ≡ false → (if a then Comes ∷ [] else steps_if b IsNeeded) ≡ []
 exit-steps a b h g = rw (h, g) refl
 
-no-steps-of : (call : ℕ → CallPlace) (name : Name) (frame : Frame) → concerns name frame ≡ false
-    → steps_of call name frame ≡ []
-no-steps-of call name (frames.Forward asked) h = ap (λ b. steps_if b IsNeeded) (none-of-both
-    (is_call_on name asked) _ h)
-no-steps-of call name (frames.Checkpoint pid parent deed vars) h = ap (λ b. steps_if b Comes) h
-no-steps-of call name (frames.Recall other) h = ap (λ b. steps_if b Goes) h
-no-steps-of call name (frames.Grant deed) h = ap (λ b. steps_if b Comes) h
-no-steps-of call name frames.RecallAll h = absurd (false≢true (sym h))
-no-steps-of call name (frames.ExitTo parcel) h =
+no-steps-of : (used : Bool) (call : ℕ → CallPlace) (name : Name) (frame : Frame) → concerns name frame ≡ false
+    → steps_of used call name frame ≡ []
+no-steps-of used call name (frames.Forward asked) h =
+    ap (λ b. steps_if b IsNeeded) (none-of-both (is_call_on name asked) _ h)
+no-steps-of used call name (frames.Checkpoint pid parent deed vars) h = ap (λ b. steps_if b Comes) h
+no-steps-of used call name (frames.Recall other) h = ap (λ b. steps_if b Goes) h
+no-steps-of used call name (frames.Grant deed) h = ap (λ b. steps_if b Comes) h
+no-steps-of used call name frames.RecallAll h = absurd (false≢true (sym h))
+no-steps-of used call name (frames.ExitTo parcel) h =
     exit-steps (has_deed_of name parcel) (is_same_name name (Proc parcel.parent)) (or-left _ _ h)
     (or-right (has_deed_of name parcel) _ h)
-no-steps-of call name frame h = refl
+no-steps-of used call name (frames.Cancel asked) h =
+    ap (λ b. steps_if b IsNeeded) (and-false used (is_cancel_on name asked) h)
+no-steps-of used call name frame h = refl
 
 -- a map to lists, of one frame
 just-one : {A : Type 0} (g : Frame → List A) (frame : Frame) → g frame ≡ [] → flat_map g (frame ∷ []) ≡ []
 just-one g frame h = ap (λ xs. xs ++ []) h
 
 -- it is nothing in the play
-pub no-steps : (call : ℕ → CallPlace) (name : Name) (frame : Frame) → concerns name frame ≡ false
-    → plays call name (frame ∷ []) ≡ []
-no-steps call name frame h = just-one (steps_of call name) frame (no-steps-of call name frame h)
+pub no-steps : (used : Bool) (call : ℕ → CallPlace) (name : Name) (frame : Frame) → concerns name frame ≡ false
+    → plays used call name (frame ∷ []) ≡ []
+no-steps used call name frame h = just-one (steps_of used call name) frame (no-steps-of used call name frame h)
 
-no-ranges-of : (call : ℕ → CallPlace) (name : Name) (frame : Frame) → concerns name frame ≡ false
-    → range_steps_of call name frame ≡ []
-no-ranges-of call name (frames.Forward asked) h =
+no-ranges-of : (used : Bool) (call : ℕ → CallPlace) (name : Name) (frame : Frame) → concerns name frame ≡ false
+    → range_steps_of used call name frame ≡ []
+no-ranges-of used call name (frames.Forward asked) h =
     ap (λ b. range_steps_if b IsSentThere) (none-of-both (is_call_on name asked) _ h)
-no-ranges-of call name (frames.Lease kind first) h = ap (λ b. range_steps_if b IsLeased) h
-no-ranges-of call name frame h = refl
+no-ranges-of used call name (frames.Lease kind first) h = ap (λ b. range_steps_if b IsLeased) h
+no-ranges-of used call name (frames.Cancel asked) h =
+    ap (λ b. range_steps_if b IsSentThere) (and-false (not used) (is_cancel_on name asked) h)
+no-ranges-of used call name frame h = refl
 
 -- nor a call sent by range, nor a lease with its number
-pub no-ranges : (call : ℕ → CallPlace) (name : Name) (frame : Frame) → concerns name frame ≡ false
-    → flat_map (range_steps_of call name) (frame ∷ []) ≡ []
-no-ranges call name frame h = just-one (range_steps_of call name) frame (no-ranges-of call name frame h)
+pub no-ranges : (used : Bool) (call : ℕ → CallPlace) (name : Name) (frame : Frame) → concerns name frame ≡ false
+    → flat_map (range_steps_of used call name) (frame ∷ []) ≡ []
+no-ranges used call name frame h = just-one (range_steps_of used call name) frame (no-ranges-of used call name frame h)
 
 no-places-of : (name : Name) (frame : Frame) → concerns name frame ≡ false → placed_by name frame ≡ []
 no-places-of name (frames.Placed other node) h = ap (λ b. if b then node ∷ [] else []) h
@@ -180,21 +189,22 @@ IsSameBut x call changed = (y : ℕ) → y ≢ x → changed y ≡ call y
 apart : (a b : ℕ) → nat_eq a b ≡ false → a ≢ b
 apart a b h e = false≢true (sym h ∙ eq-eqb a b e)
 
-steps-of-others : (call changed : ℕ → CallPlace) (x : ℕ) → IsSameBut x call changed → (name : Name) (to sender : ℕ)
-    (frame : Frame)
-    → is_about x to sender frame ≡ false → steps_of changed name frame ≡ steps_of call name frame
-steps-of-others call changed x same name to sender (frames.Forward asked) h =
-    ap (λ place. steps_if (is_call_on name asked && is_sent_by_place place) IsNeeded)
+steps-of-others : (used : Bool) (call changed : ℕ → CallPlace) (x : ℕ) → IsSameBut x call changed → (name : Name)
+    (to sender : ℕ) (frame : Frame)
+    → is_about x to sender frame ≡ false → steps_of used changed name frame ≡ steps_of used call name frame
+steps-of-others used call changed x same name to sender (frames.Forward asked) h =
+    ap (λ place. steps_if (is_call_on name asked && needs_by (used && (is_object name && is_lasting asked)) place)
+    IsNeeded)
     (same asked.caller (apart asked.caller x h))
-steps-of-others call changed x same name to sender frame h = refl
+steps-of-others used call changed x same name to sender frame h = refl
 
-ranges-of-others : (call changed : ℕ → CallPlace) (x : ℕ) → IsSameBut x call changed → (name : Name) (to sender : ℕ)
-    (frame : Frame)
-    → is_about x to sender frame ≡ false → range_steps_of changed name frame ≡ range_steps_of call name frame
-ranges-of-others call changed x same name to sender (frames.Forward asked) h =
+ranges-of-others : (used : Bool) (call changed : ℕ → CallPlace) (x : ℕ) → IsSameBut x call changed → (name : Name)
+    (to sender : ℕ) (frame : Frame)
+    → is_about x to sender frame ≡ false → range_steps_of used changed name frame ≡ range_steps_of used call name frame
+ranges-of-others used call changed x same name to sender (frames.Forward asked) h =
     ap (λ place. range_steps_if (is_call_on name asked && is_sent_by_range place) IsSentThere)
     (same asked.caller (apart asked.caller x h))
-ranges-of-others call changed x same name to sender frame h = refl
+ranges-of-others used call changed x same name to sender frame h = refl
 
 -- an empty filter drops the first, and the rest
 record DropsAll {A : Type 0} (test : A → Bool) (x : A) (xs : List A) : Type 0 where
@@ -214,27 +224,27 @@ drops-all test x xs h =
     in record { first = both.0; rest = both.1 }
 
 -- where no frame is about a call, it doesn't matter where that call is
-pub plays-of-others : (call changed : ℕ → CallPlace) (x : ℕ) → IsSameBut x call changed → (name : Name) (to sender : ℕ)
-    (fs : List Frame)
-    → filter (is_about x to sender) fs ≡ [] → plays changed name fs ≡ plays call name fs
-plays-of-others call changed x same name to sender [] h = refl
-plays-of-others call changed x same name to sender (f ∷ fs) h =
+pub plays-of-others : (used : Bool) (call changed : ℕ → CallPlace) (x : ℕ) → IsSameBut x call changed → (name : Name)
+    (to sender : ℕ) (fs : List Frame)
+    → filter (is_about x to sender) fs ≡ [] → plays used changed name fs ≡ plays used call name fs
+plays-of-others used call changed x same name to sender [] h = refl
+plays-of-others used call changed x same name to sender (f ∷ fs) h =
     let d : DropsAll (is_about x to sender) f fs = drops-all (is_about x to sender) f fs h
-    in ap (λ xs. xs ++ plays changed name fs) (steps-of-others call changed x same name to sender f d.first)
-    ∙ ap (λ xs. steps_of call name f ++ xs) (plays-of-others call changed x same name to sender fs d.rest)
+    in ap (λ xs. xs ++ plays used changed name fs) (steps-of-others used call changed x same name to sender f d.first)
+    ∙ ap (λ xs. steps_of used call name f ++ xs) (plays-of-others used call changed x same name to sender fs d.rest)
 
 -- the same for calls sent by range
-pub ranges-of-all-others : (call changed : ℕ → CallPlace) (x : ℕ) → IsSameBut x call changed → (name : Name)
-    (to sender : ℕ) (fs : List Frame)
+pub ranges-of-all-others : (used : Bool) (call changed : ℕ → CallPlace) (x : ℕ) → IsSameBut x call changed
+    → (name : Name) (to sender : ℕ) (fs : List Frame)
     → filter (is_about x to sender) fs ≡ []
-    → flat_map (range_steps_of changed name) fs ≡ flat_map (range_steps_of call name) fs
-ranges-of-all-others call changed x same name to sender [] h = refl
-ranges-of-all-others call changed x same name to sender (f ∷ fs) h =
+    → flat_map (range_steps_of used changed name) fs ≡ flat_map (range_steps_of used call name) fs
+ranges-of-all-others used call changed x same name to sender [] h = refl
+ranges-of-all-others used call changed x same name to sender (f ∷ fs) h =
     let d : DropsAll (is_about x to sender) f fs = drops-all (is_about x to sender) f fs h
-    in ap (λ xs. xs ++ flat_map (range_steps_of changed name) fs)
-    (ranges-of-others call changed x same name to sender f d.first)
-    ∙ ap (λ xs. range_steps_of call name f ++ xs)
-    (ranges-of-all-others call changed x same name to sender fs d.rest)
+    in ap (λ xs. xs ++ flat_map (range_steps_of used changed name) fs)
+    (ranges-of-others used call changed x same name to sender f d.first)
+    ∙ ap (λ xs. range_steps_of used call name f ++ xs)
+    (ranges-of-all-others used call changed x same name to sender fs d.rest)
 
 -- ---- what only some events have
 

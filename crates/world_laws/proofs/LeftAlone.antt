@@ -22,7 +22,7 @@ use Rattle.node_model.specs.declared.held.Held.{Held}
 use Rattle.node_model.specs.declared.held.Held.TheVariants.{Ending}
 use Rattle.node_model.specs.Kinds.{get_named, for_kind}
 use Rattle.node_model.specs.Directory.{Directory, place_of, maker, stays, held_for, is_parcel_with}
-use Rattle.node_model.specs.Bodies.{body_in}
+use Rattle.node_model.specs.Bodies.{body_in, waiters_of}
 use Rattle.world_model.specs.Node.{Node, Left}
 use Rattle.world_model.specs.Census.{brings}
 use Rattle.world_model.specs.World.{World, numbers, node_count, is_checkpoint}
@@ -30,7 +30,7 @@ use Rattle.world_laws.specs.Places.{CallPlace, DeedPlace, Beside}
 use Rattle.world_laws.specs.Sights.{node_of, frames_to, directory_of, stage_of, is_born_in}
 use Rattle.world_laws.specs.Plays.{begin, has_any, is_checkpoint_of, plays, placed_in, news}
 use Rattle.world_laws.specs.Names.{name_sight, held_at, comes_to, is_maker, range_steps_of, forker}
-use Rattle.world_laws.specs.Callers.{call_sight, is_about, is_item_about}
+use Rattle.world_laws.specs.Callers.{call_sight, is_about, is_item_about, is_waiter_of}
 use Rattle.world_laws.specs.Ways.{way_sight, is_leaving_frame, is_recall_all, is_left_frame, under_way_of, IsParcelIn, left as left_in, sent as sent_in, kept as kept_in, at_hand, HasSender}
 use Rattle.world_laws.specs.Ranges.{kind_sight, lease_in, lease_at, has_lease, leases_on_way, FewRanges, one_for}
 use Rattle.world_laws.specs.Families.{NodeHolds, FamilyHolds, checkpoints_to}
@@ -65,14 +65,15 @@ pub record LeavesName (w w' : World) (hand hand' : List Held) (b b' : Beside) (p
     (left : ℕ → ℕ → List Frame) (name : Name) : Type 0 where
   pub directory : DirectoryLeaves (directory_of w) (directory_of w') name
   pub used_is : is_used_name b'.kernel name ≡ is_used_name b.kernel name
-  pub body_is : body_in b'.kernel name ≡ body_in b.kernel name
+  pub part_is : body_in b'.kernel name ≡ body_in b.kernel name
+  pub body_is : b'.body name ≡ b.body name
   pub deed_is : b'.deed name ≡ b.deed name
   pub held_is : get_named n.deeds name ≡ held_at w name p
   pub begins_is : (holds comes : Bool) → begin n.stage holds comes ≡ begin (stage_of w p) holds comes
   pub hand_is : filter (is_parcel_with name) hand' ≡ filter (is_parcel_with name) hand
-  pub steps_are : (h : ℕ) → plays b'.call name (left h 1) ≡ plays b.call name (left h 1)
-  pub ranges_are : (h : ℕ)
-      → flat_map (range_steps_of b'.call name) (left h 1) ≡ flat_map (range_steps_of b.call name) (left h 1)
+  pub steps_are : (used : Bool) (h : ℕ) → plays used b'.call name (left h 1) ≡ plays used b.call name (left h 1)
+  pub ranges_are : (used : Bool) (h : ℕ)
+      → flat_map (range_steps_of used b'.call name) (left h 1) ≡ flat_map (range_steps_of used b.call name) (left h 1)
 
 -- none of the frames is about the name
 abbrev pub AreNotAbout : Name → List (ℕ × Frame) → Type 0
@@ -96,6 +97,8 @@ pub record LeavesCall (w w' : World) (hand hand' : List Held) (b b' : Beside) (p
       → filter (is_item_about x) (held_for (directory_of w') name)
       ≡ filter (is_item_about x) (held_for (directory_of w) name)
   pub hand_is : filter (is_item_about x) hand' ≡ filter (is_item_about x) hand
+  pub waiters_are : (name : Name)
+      → filter (is_waiter_of x) (waiters_of (b'.body name)) ≡ filter (is_waiter_of x) (waiters_of (b.body name))
 
 module _ (script : Script) (p : ℕ) (w w' : World) (n : Node) (takes sends : List (ℕ × Frame)) (entries : List Entry)
     (c : Changes script p w w' n takes sends entries) where
@@ -117,6 +120,7 @@ module _ (script : Script) (p : ℕ) (w w' : World) (n : Node) (takes sends : Li
         maker = sym d.maker_is;
         stays = λ x. sym (d.stays_is x);
         used = sym l.used_is;
+        part = sym l.part_is;
         body = sym l.body_is;
         deed = sym l.deed_is;
         held = λ h. sym (held-same h);
@@ -158,27 +162,34 @@ module _ (script : Script) (p : ℕ) (w w' : World) (n : Node) (takes sends : Li
           (ap (λ o. begin n.stage (is_some o) (comes_to script w name h)) l.held_is
           ∙ l.begins_is (is_some (held_at w name p)) (comes_to script w name h)) h
 
-      steps-same : (h : ℕ) → plays b'.call name (frames_to w' h 1) ≡ plays b.call name (frames_to w h 1)
+      steps-same : (h : ℕ)
+          → plays (is_used_name b'.kernel name) b'.call name (frames_to w' h 1)
+          ≡ plays (is_used_name b.kernel name) b.call name (frames_to w h 1)
       steps-same h =
-          only-stayed script p w w' n takes sends entries c (λ t s fs. plays b'.call name fs)
+          ap (λ u. plays u b'.call name (frames_to w' h 1)) l.used_is
+          ∙ only-stayed script p w w' n takes sends entries c
+          (λ t s fs. plays (is_used_name b.kernel name) b'.call name fs)
           (λ t s. flat_map-is-list-map _)
-          (all-weaker (λ s. no-steps b'.call name s.1) sends none_sent) h 1
-          ∙ l.steps_are h
-          ∙ stayed script p w w' n takes sends entries c (λ t s fs. plays b.call name fs)
+          (all-weaker (λ s. no-steps (is_used_name b.kernel name) b'.call name s.1) sends none_sent) h 1
+          ∙ l.steps_are (is_used_name b.kernel name) h
+          ∙ stayed script p w w' n takes sends entries c (λ t s fs. plays (is_used_name b.kernel name) b.call name fs)
           (λ t s. flat_map-is-list-map _)
-          (all-weaker (λ s. no-steps b.call name s.1) takes none_taken) h 1
+          (all-weaker (λ s. no-steps (is_used_name b.kernel name) b.call name s.1) takes none_taken) h 1
 
       ranges-same : (h : ℕ)
-          → flat_map (range_steps_of b'.call name) (frames_to w' h 1)
-          ≡ flat_map (range_steps_of b.call name) (frames_to w h 1)
+          → flat_map (range_steps_of (is_used_name b'.kernel name) b'.call name) (frames_to w' h 1)
+          ≡ flat_map (range_steps_of (is_used_name b.kernel name) b.call name) (frames_to w h 1)
       ranges-same h =
-          only-stayed script p w w' n takes sends entries c (λ t s fs. flat_map (range_steps_of b'.call name) fs)
+          ap (λ u. flat_map (range_steps_of u b'.call name) (frames_to w' h 1)) l.used_is
+          ∙ only-stayed script p w w' n takes sends entries c
+          (λ t s fs. flat_map (range_steps_of (is_used_name b.kernel name) b'.call name) fs)
           (λ t s. flat_map-is-list-map _)
-          (all-weaker (λ s. no-ranges b'.call name s.1) sends none_sent) h 1
-          ∙ l.ranges_are h
-          ∙ stayed script p w w' n takes sends entries c (λ t s fs. flat_map (range_steps_of b.call name) fs)
+          (all-weaker (λ s. no-ranges (is_used_name b.kernel name) b'.call name s.1) sends none_sent) h 1
+          ∙ l.ranges_are (is_used_name b.kernel name) h
+          ∙ stayed script p w w' n takes sends entries c
+          (λ t s fs. flat_map (range_steps_of (is_used_name b.kernel name) b.call name) fs)
           (λ t s. flat_map-is-list-map _)
-          (all-weaker (λ s. no-ranges b.call name s.1) takes none_taken) h 1
+          (all-weaker (λ s. no-ranges (is_used_name b.kernel name) b.call name s.1) takes none_taken) h 1
 
       news-same : (q : ℕ)
           → news name (is_used_name b'.kernel name && is_maker (maker (directory_of w') name) q) (frames_to w' 1 q)
@@ -195,6 +206,28 @@ module _ (script : Script) (p : ℕ) (w w' : World) (n : Node) (takes sends : Li
 
   -- ---- calls
 
+  with-node : (m : Node) → SameCaller (node_of w p) m → (q : Node) → q ≡ m → SameCaller (node_of w p) q
+  with-node m s q e = subst (λ (z : Node). SameCaller (node_of w p) z) (sym e) s
+
+  itself : (m q : Node) → q ≡ m → SameCaller m q
+  itself m q e =
+      record {
+        number = ap (λ (z : Node). z.number) e;
+        pid = ap (λ (z : Node). z.pid) e;
+        stage = ap (λ (z : Node). z.stage) e;
+        caller = ap (λ (z : Node). z.caller) e;
+        leases = ap (λ (z : Node). z.leases) e;
+      }
+
+  -- a node has the same caller where the node at work has
+  pub caller-left-alone : (x : ℕ) → (x ≡ p → SameCaller (node_of w p) n) → SameCaller (node_of w x) (node_of w' x)
+  caller-left-alone x own =
+      elim (cases_eq x p) [
+        | inl e ↦
+            subst (λ y. SameCaller (node_of w y) (node_of w' y)) (sym e) (with-node n (own e) (node_of w' p) c.here)
+        | inr d ↦ itself (node_of w x) (node_of w' x) (c.others x d)
+      ]
+
   -- a call that no frame is about is seen the same
   pub call-left-alone : (hand hand' : List Held) (b b' : Beside) (x : ℕ)
       → LeavesCall w w' hand hand' b b' p n x
@@ -202,7 +235,7 @@ module _ (script : Script) (p : ℕ) (w w' : World) (n : Node) (takes sends : Li
       → AllByRecursion (λ s. is_about x s.0 p s.1 ≡ false) sends
       → SameCall (call_sight w hand b x) (call_sight w' hand' b' x)
   call-left-alone hand hand' b b' x l none_taken none_sent =
-      let m : SameCaller (node_of w x) (node_of w' x) = caller-same
+      let m : SameCaller (node_of w x) (node_of w' x) = caller-left-alone x l.own
       in record {
         number = sym m.number;
         pid = sym m.pid;
@@ -218,29 +251,8 @@ module _ (script : Script) (p : ℕ) (w w' : World) (n : Node) (takes sends : Li
             (all-weaker (λ s. not-about x s.0 p s.1) sends none_sent) to sender);
         held = λ name. sym (l.held_is name);
         hand = sym l.hand_is;
+        waiters = λ name. sym (l.waiters_are name);
       }
-    where
-      with-node : (m : Node) → SameCaller (node_of w p) m → (q : Node) → q ≡ m → SameCaller (node_of w p) q
-      with-node m s q e = subst (λ (z : Node). SameCaller (node_of w p) z) (sym e) s
-
-      itself : (m q : Node) → q ≡ m → SameCaller m q
-      itself m q e =
-          record {
-            number = ap (λ (z : Node). z.number) e;
-            pid = ap (λ (z : Node). z.pid) e;
-            stage = ap (λ (z : Node). z.stage) e;
-            caller = ap (λ (z : Node). z.caller) e;
-            leases = ap (λ (z : Node). z.leases) e;
-          }
-
-      caller-same : SameCaller (node_of w x) (node_of w' x)
-      caller-same =
-          elim (cases_eq x p) [
-            | inl e ↦
-                subst (λ y. SameCaller (node_of w y) (node_of w' y)) (sym e)
-                (with-node n (l.own e) (node_of w' p) c.here)
-            | inr d ↦ itself (node_of w x) (node_of w' x) (c.others x d)
-          ]
 
   -- ---- ways, parcels, kinds and families
 

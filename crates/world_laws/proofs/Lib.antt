@@ -14,3 +14,14 @@ pub mod Numbers
 pub mod Lines
 pub mod NewRanges
 pub mod ByRules
+pub mod Filtered
+pub mod Behind
+pub mod Pairs
+pub mod Wholes
+pub mod Cancels
+pub mod Following
+pub mod GoingOn
+pub mod Replied
+pub mod Owed
+pub mod CancelMoves
+pub mod Interrupted

@@ -21,7 +21,7 @@ all-sent-append p ss [] ys = refl
 all-sent-append p ss (x ∷ xs) ys = all-sent-append p (with_sent p ss x) xs ys
 
 abbrev grown : Step → List (ℕ × Frame) → List Entry → Step
-grown t sends entries = record { node = t.node; entries = entries; sends = sends }
+grown t sends entries = record { node = t.node; entries = entries; sends = sends; strikes = t.strikes }
 
 world-grown : (v : World) (p : ℕ) (s t : Step) (sends : List (ℕ × Frame)) (entries : List Entry)
     → GrowsBy s t sends entries

@@ -1,7 +1,7 @@
 -- What is on its way is played: a frame is taken from the head, or sent to the tail.
-use Rattle.std.proofs.Common.{◌≡◌, Bool, true, false, List, [], ◌∷◌, ◌++◌, Option, Some, None, refl, ap, sym, ◌∙◌, append_assoc}
+use Rattle.std.proofs.Common.{◌≡◌, List, [], ◌∷◌, ◌++◌, Option, Some, None, refl, ap, sym, ◌∙◌, append_assoc}
 use Rattle.std.specs.List.{flat_map}
-use Rattle.world_laws.specs.Plays.{Hold, PlayStep, play_step, play_on, News, Tells, NeedsPlace, finds_place}
+use Rattle.world_laws.specs.Plays.{Hold, PlayStep, play_step, play_on}
 
 -- nothing goes on where a frame didn't find what it needed
 pub play-none : (ss : List PlayStep) → play_on ss None ≡ None

@@ -1,12 +1,12 @@
 -- What is seen the same keeps what holds of it; and what holds stays where more nodes are born, and more names known.
-use Rattle.std.proofs.Common.{◌≡◌, ℕ, Bool, true, Option, Some, None, subst}
+use Rattle.std.proofs.Common.{◌≡◌, ℕ, Bool, true, Option, Some, None, subst, inl, inr}
 use Rattle.pico_base.specs.declared.call.Call.{Call}
 use Rattle.pico_base.specs.declared.numbers.Name.{Name}
 use Rattle.pico_base.specs.declared.script.Script.{Script}
 use Rattle.rpc_frame.specs.declared.frame.Frame.{Frame}
 use Rattle.rpc_frame.specs.declared.frame.Frame.TheVariants as frames
 use Rattle.world_model.specs.Node.{Node}
-use Rattle.world_laws.specs.Places.{CallPlace, Idle, AsksLease, HasLease, InAsk, InRequest, InNotOwner, SentByPlace, SentByRange, InBounce, IsHeld, IsInHand, InAnswer, Ends}
+use Rattle.world_laws.specs.Places.{CallPlace, Idle, AsksLease, HasLease, InAsk, InRequest, InNotOwner, SentByPlace, SentByRange, InBounce, IsHeld, IsInHand, Parked, Waits, InAnswer, Ends}
 use Rattle.world_laws.specs.Names.{NameSight, NameHolds, IsBoundRightly}
 use Rattle.world_laws.specs.Callers.{CallSight, CallHolds, HasCall, HasCallOrNone, IsBetween}
 use Rattle.world_laws.specs.Ways.{WaySight, Way, here, tells, collected, over, gone}
@@ -25,6 +25,7 @@ pub record SameName (x y : NameSight) : Type 0 where
   pub maker : x.maker ≡ y.maker
   pub stays : (n : ℕ) → x.stays n ≡ y.stays n
   pub used : x.used ≡ y.used
+  pub part : x.part ≡ y.part
   pub body : x.body ≡ y.body
   pub deed : x.deed ≡ y.deed
   pub held : (h : ℕ) → x.held h ≡ y.held h
@@ -43,6 +44,7 @@ same-sight x y s = λ i. record {
   maker = s.maker i;
   stays = λ n. s.stays n i;
   used = s.used i;
+  part = s.part i;
   body = s.body i;
   deed = s.deed i;
   held = λ h. s.held h i;
@@ -60,6 +62,8 @@ name-born : (script : Script) (pids : ℕ → ℕ) (born more : ℕ → Bool) (n
     → NameHolds script pids born name x → NameHolds script pids more name x
 name-born script pids born more name x m h =
     record {
+      parts = h.parts;
+      callers = h.callers;
       made = h.made;
       place_fits = h.place_fits;
       tables = h.tables;
@@ -102,6 +106,7 @@ pub record SameCall (x y : CallSight) : Type 0 where
   pub frames_about : (to sender : ℕ) → x.frames_about to sender ≡ y.frames_about to sender
   pub held : (name : Name) → x.held name ≡ y.held name
   pub hand : x.hand ≡ y.hand
+  pub waiters : (name : Name) → x.waiters name ≡ y.waiters name
 
 same-call : (x y : CallSight) → SameCall x y → x ≡ y
 same-call x y s = λ i. record {
@@ -116,6 +121,7 @@ same-call x y s = λ i. record {
   frames_about = λ to sender. s.frames_about to sender i;
   held = λ name. s.held name i;
   hand = s.hand i;
+  waiters = λ name. s.waiters name i;
 }
 
 between-born : (p : ℕ) (born more : ℕ → Bool) (place : CallPlace) → IsMore born more → IsBetween p born place
@@ -131,6 +137,8 @@ between-born p born more (SentByRange to) m h = h
 between-born p born more (InBounce sender) m h = h
 between-born p born more (IsHeld name) m h = tt
 between-born p born more IsInHand m h = tt
+between-born p born more Parked m h = tt
+between-born p born more (Waits name) m h = tt
 between-born p born more (InAnswer sender reply) m h = (m sender h.0, h.1)
 between-born p born more Ends m h = tt
 
@@ -145,6 +153,7 @@ has-call-born script p born more x call m h =
       between = between-born p born more x.call m h.between;
       so_far = h.so_far;
       at_work = h.at_work;
+      started = h.started;
       tickets = h.tickets;
       try_left = h.try_left;
     }
@@ -270,3 +279,5 @@ may-be-born script born more to sender (frames.Leaving pid parent parent_node) m
 may-be-born script born more to sender frames.RecallAll m h = h
 may-be-born script born more to sender (frames.Left parcel) m h = h
 may-be-born script born more to sender (frames.ExitTo parcel) m h = h
+may-be-born script born more to sender (frames.Cancel asked) m (inl h) = inl h
+may-be-born script born more to sender (frames.Cancel asked) m (inr h) = inr (h.0, m to h.1)

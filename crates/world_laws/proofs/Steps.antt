@@ -1,5 +1,5 @@
 -- A node's turn as a step of the world, and what it changes there.
-use Rattle.std.proofs.Common.{◌≡◌, ◌≢◌, ◌⊎◌, ℕ, zero, suc, ◌-◌, ◌<◌, ◌≤◌, Bool, true, false, ◌&&◌, if◌then◌else◌, List, [], ◌∷◌, ◌++◌, length, set, slice_get, get_or, nat_eq, Option, Some, None, unwrap_or, refl, ap, sym, subst, ◌∙◌, inl, inr, arith, append-nil}
+use Rattle.std.proofs.Common.{◌≡◌, ◌≢◌, ◌⊎◌, ℕ, zero, suc, ◌-◌, ◌<◌, ◌≤◌, Bool, true, false, ◌&&◌, if◌then◌else◌, List, [], ◌∷◌, ◌++◌, length, set, slice_get, get_or, nat_eq, Option, Some, None, option_map, unwrap_or, refl, ap, sym, subst, ◌∙◌, inl, inr, arith, append-nil}
 use Rattle.std.proofs.lemmas.Bool.{cases_eq, eq-eqb, ne_eqb, lt-ltb, le-ltb}
 use Rattle.std.proofs.lemmas.List.{length-set}
 use Rattle.std.proofs.lemmas.Option.{slice_get-get_or}
@@ -9,8 +9,10 @@ use Rattle.pico_base.specs.declared.script.Event.TheVariants as events
 use Rattle.rpc_frame.specs.declared.frame.Frame.{Frame}
 use Rattle.world_model.specs.Node.{Node, unborn_node}
 use Rattle.world_model.specs.Step.{Step}
-use Rattle.world_model.specs.Turn.{take_by_kind, take_frame}
+use Rattle.world_model.specs.Turn.{take_by_kind, take_by_rules, take_frame}
 use Rattle.world_model.specs.Starting.{run}
+use Rattle.world_model.specs.Strikes.{strike, strike_call}
+use Rattle.node_model.specs.Caller.{to_cancel}
 use Rattle.world_model.specs.World.{World, node_at, stream, stream_in, with_stream, with_all_sent, node_count, world_after, after_turn, takes_with, runs_at, step, is_number}
 use Rattle.world_laws.specs.ByRules.{step_by_rules}
 use Rattle.world_laws.specs.Places.{Beside}
@@ -75,12 +77,26 @@ turn-with rule script w p q frame rest shape h =
     ∙ ap (takes_with rule w p q (Some (node_of w p))) h.head
     ∙ ap (λ (x : Script). after_turn (world_without w p q rest) p (rule x (node_of w p) q frame)) shape.of_script
 
--- a node that takes a frame by a rule: the world's step by the rules
+-- a node that takes a frame by a rule: the world's step by the rules, with the strike last
+pub struck-steps : (script : Script) (w : World) (p q : ℕ) (frame : Frame) (rest : List Frame) (s : Step)
+    → IsShaped script w → Heads script w p q frame rest → take_by_kind script (node_of w p) q frame ≡ Some s
+    → step_by_rules w (events.Take p q) ≡ Some (world_after (world_without w p q rest) p (strike script s))
+struck-steps script w p q frame rest s shape h rule =
+    turn-with take_by_rules script w p q frame rest shape h
+    ∙ ap (λ o. after_turn (world_without w p q rest) p (option_map (strike script) o)) rule
+
+-- a step in which no signal strikes is the whole step
+pub unstruck : (script : Script) (s : Step) → s.strikes ≡ false → strike script s ≡ s
+unstruck script s calm = ap (λ b. if b then strike_call script s (to_cancel s.node.caller) else s) calm
+
+-- where none strikes: the world's step by the rules
 pub take-steps : (script : Script) (w : World) (p q : ℕ) (frame : Frame) (rest : List Frame) (s : Step)
     → IsShaped script w → Heads script w p q frame rest → take_by_kind script (node_of w p) q frame ≡ Some s
+    → s.strikes ≡ false
     → step_by_rules w (events.Take p q) ≡ Some (world_after (world_without w p q rest) p s)
-take-steps script w p q frame rest s shape h rule =
-    turn-with take_by_kind script w p q frame rest shape h ∙ ap (after_turn (world_without w p q rest) p) rule
+take-steps script w p q frame rest s shape h rule calm =
+    struck-steps script w p q frame rest s shape h rule
+    ∙ ap (λ (t : Step). Some (world_after (world_without w p q rest) p t)) (unstruck script s calm)
 
 -- a node that takes a frame: the world's step
 pub taken-steps : (script : Script) (w : World) (p q : ℕ) (frame : Frame) (rest : List Frame) (s : Step)

@@ -1,5 +1,5 @@
 -- What holds of one node's call: it is in one place, is the call due there, and may be made.
-use Rattle.std.specs.Prelude.{◌≡◌, ◌≢◌, ◌⊎◌, ◌≤◌, ℕ, ◌+◌, Bool, true, false, ◌&&◌, nat_eq, List, [], ◌∷◌, Option, Some, None, take, slice_get, sum_by}
+use Rattle.std.specs.Prelude.{◌≡◌, ◌≢◌, ◌⊎◌, ◌≤◌, ℕ, ◌+◌, Bool, true, false, not, ◌&&◌, ◌||◌, nat_eq, List, [], ◌∷◌, Option, Some, None, take, slice_get, sum_by}
 use Rattle.std.specs.List.{filter, AllByRecursion}
 use Rattle.pico_base.specs.declared.call.Call.{Call}
 use Rattle.pico_base.specs.declared.call.Home.{Home}
@@ -14,20 +14,25 @@ use Rattle.rpc_frame.specs.declared.asked.Asked.{Asked}
 use Rattle.rpc_frame.specs.declared.frame.Frame.{Frame}
 use Rattle.rpc_frame.specs.declared.frame.Frame.TheVariants as frames
 use Rattle.number_maps.specs.Maps.{get}
+use Rattle.waiting_model.specs.declared.callers.Waiting.{Waiting}
+use Rattle.waiting_model.specs.Calls.{is_withdrawal, may_park}
 use Rattle.kernel_model.specs.Row.{Alive}
 use Rattle.kernel_model.specs.Kernel.{living_at}
 use Rattle.kernel_model.specs.Transition.{may_make}
 use Rattle.kernel_model.specs.Fitting.{Place, IsDue, place_after}
 use Rattle.node_model.specs.declared.held.Held.{Held}
 use Rattle.node_model.specs.declared.held.Held.TheVariants.{Request, Ending}
-use Rattle.node_model.specs.Kinds.{for_kind, is_same_name}
+use Rattle.node_model.specs.Kinds.{for_kind, is_object, is_same_name}
+use Rattle.node_model.specs.Bodies.{waiters_of}
+use Rattle.node_model.specs.Carrying.{is_own_home}
+use Rattle.node_model.specs.Serving.{waiting_as}
 use Rattle.node_model.specs.Directory.{held_for}
 use Rattle.node_model.specs.Leases.{Leases, takes_number}
 use Rattle.node_model.specs.Caller.{Caller, caller_place, lines_of}
 use Rattle.world_model.specs.Node.{Node, Stage, Unborn, Living, Leaving, Left, Over}
 use Rattle.world_model.specs.Calls.{is_on_name, is_on_name_or_removal, is_for_others}
 use Rattle.world_model.specs.World.{World}
-use Rattle.world_laws.specs.Places.{CallPlace, Idle, AsksLease, HasLease, InAsk, InRequest, InNotOwner, SentByPlace, SentByRange, InBounce, IsHeld, IsInHand, InAnswer, Ends, Beside}
+use Rattle.world_laws.specs.Places.{CallPlace, Idle, AsksLease, HasLease, InAsk, InRequest, InNotOwner, SentByPlace, SentByRange, InBounce, IsHeld, IsInHand, Parked, Waits, InAnswer, Ends, Beside}
 use Rattle.world_laws.specs.Sights.{node_of, frames_to, directory_of}
 
 -- ---- what there is to see of a node's call
@@ -44,8 +49,9 @@ is_about p to sender (frames.LeaseAsk kind) = nat_eq sender p
 is_about p to sender (frames.Lease kind first) = nat_eq to p
 is_about p to sender frame = false
 
+-- a withdrawal of a call isn't the call
 abbrev pub is_item_about : ℕ → Held → Bool
-is_item_about p (Request asked) = nat_eq asked.caller p
+is_item_about p (Request asked) = nat_eq asked.caller p && not (is_withdrawal asked.call)
 is_item_about p (Ending parcel) = false
 
 pub record CallSight : Type 0 where
@@ -62,6 +68,11 @@ pub record CallSight : Type 0 where
   pub frames_about : ℕ → ℕ → List Frame
   pub held : Name → List Held
   pub hand : List Held
+  pub waiters : Name → List Waiting
+
+-- a waiter is of node p
+abbrev pub is_waiter_of : ℕ → Waiting → Bool
+is_waiter_of p w = nat_eq w.caller p
 
 abbrev pub call_sight : World → List Held → Beside → ℕ → CallSight
 call_sight w hand b p =
@@ -78,6 +89,7 @@ call_sight w hand b p =
       frames_about = λ to sender. filter (is_about p to sender) (frames_to w to sender);
       held = λ name. filter (is_item_about p) (held_for (directory_of w) name);
       hand = filter (is_item_about p) hand;
+      waiters = λ name. filter (is_waiter_of p) (waiters_of (b.body name));
     }
 
 -- the call, as others are asked for it
@@ -123,17 +135,23 @@ abbrev pub is_in_hand : CallPlace → Bool
 is_in_hand IsInHand = true
 is_in_hand place = false
 
+abbrev pub is_waiting_at : CallPlace → Name → Bool
+is_waiting_at (Waits name) other = is_same_name name other
+is_waiting_at place other = false
+
 -- the call is in its place, and nowhere else
 pub record IsJustThere (p : ℕ) (x : CallSight) (asked : Asked) : Type 0 where
   pub in_streams : (to sender : ℕ)
       → x.frames_about to sender ≡ only_if (is_in_stream x.call p to sender) (frame_at x.call asked)
   pub held_for_names : (name : Name) → x.held name ≡ only_if (is_held_at x.call name) (Request asked)
   pub in_hand : x.hand ≡ only_if (is_in_hand x.call) (Request asked)
+  pub waiting : (name : Name) → x.waiters name ≡ only_if (is_waiting_at x.call name) (waiting_as asked)
 
 pub record IsNowhere (x : CallSight) : Type 0 where
   pub in_streams : (to sender : ℕ) → x.frames_about to sender ≡ []
   pub held_for_names : (name : Name) → x.held name ≡ []
   pub in_hand : x.hand ≡ []
+  pub waiting : (name : Name) → x.waiters name ≡ []
 
 -- ---- which calls go where
 
@@ -146,18 +164,30 @@ is_on name (homes.At other) = is_same_name name other
 is_on name (homes.Removal other) = is_same_name name other
 is_on name home = false
 
+abbrev pub is_removal_home : Home → Bool
+is_removal_home (homes.Removal name) = true
+is_removal_home home = false
+
+-- on a process, which may have left the node that its number's range belongs to
+abbrev pub is_on_process : Home → Bool
+is_on_process (homes.At name) = not (is_object name)
+is_on_process home = false
+
+-- A call that may have to wait is asked of the leader alone, and never comes back from where that sent it.
 abbrev pub may_be_in : CallPlace → Home → Call → Bool
 may_be_in Idle home call = false
 may_be_in (AsksLease kind) home call = is_call_of_kind kind home call
 may_be_in (HasLease kind first) home call = is_call_of_kind kind home call
 may_be_in InAsk home call = is_for_others home
-may_be_in (InRequest h) home call = is_on_name home
-may_be_in (InNotOwner h) home call = is_on_name home
+may_be_in (InRequest h) home call = is_on_name home && not (may_park call)
+may_be_in (InNotOwner h) home call = is_on_name home && not (may_park call)
 may_be_in (SentByPlace h) home call = is_on_name home
 may_be_in (SentByRange h) home call = is_on_name_or_removal home
-may_be_in (InBounce h) home call = is_on_name_or_removal home
+may_be_in (InBounce h) home call = is_removal_home home || is_on_process home
 may_be_in (IsHeld name) home call = is_on name home
 may_be_in IsInHand home call = is_for_others home
+may_be_in Parked home call = is_own_home home && may_park call
+may_be_in (Waits name) home call = is_on name home && may_park call
 may_be_in (InAnswer h reply) home call = is_for_others home
 may_be_in Ends homes.Parent call = true
 may_be_in Ends home call = false
@@ -195,7 +225,8 @@ HasTryLeft script p c = (line : Line) → slice_get (lines_of script p) c.line �
 abbrev pub HasTries : Script → Type 0
 HasTries script = (p : ℕ) → AllByRecursion (λ line. 1 ≤ line.tries) (lines_of script p)
 
--- not carried out: the history is at the node's place, where the call is due, and its process may make it
+-- Not carried out, or parked, which in line is the same: the history is at the node's place, where the call is due, and
+-- its process may make it.
 pub record IsToBeMade (script : Script) (p : ℕ) (x : CallSight) (call : Call) : Type 0 where
   pub there : x.place ≡ Some (caller_place script p x.caller)
   pub due : IsDue (caller_place script p x.caller) call
@@ -235,6 +266,7 @@ pub record HasCall (script : Script) (p : ℕ) (born : ℕ → Bool) (x : CallSi
   pub between : IsBetween p born x.call
   pub so_far : IsSoFar script p x call x.call
   pub at_work : is_at_work x.stage ≡ true
+  pub started : 1 ≤ x.caller.ticket
   pub tickets : x.caller.ticket ≤ tries_made script p x.caller + 1
   pub try_left : HasTryLeft script p x.caller
 

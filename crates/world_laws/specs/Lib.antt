@@ -3,6 +3,8 @@ pub mod Sights
 pub mod Plays
 pub mod Names
 pub mod Callers
+pub mod Cancels
+pub mod Wholes
 pub mod Ways
 pub mod Ranges
 pub mod Families

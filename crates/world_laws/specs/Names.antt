@@ -15,15 +15,15 @@ use Rattle.node_model.specs.declared.held.Held.TheVariants.{Request, Ending}
 use Rattle.node_model.specs.Kinds.{kind_of, number_of, is_same_kind, is_object, get_named}
 use Rattle.node_model.specs.Directory.{Directory, Place, place_of, items_of, held_for, destination_of, maker, stays, is_parcel_with}
 use Rattle.node_model.specs.Leases.{lease_of}
-use Rattle.node_model.specs.Bodies.{Body, body_in}
+use Rattle.node_model.specs.Bodies.{Body, body_in, bare, waiters_of}
 use Rattle.node_model.specs.Spelling.{pack}
-use Rattle.world_model.specs.Node.{Node}
+use Rattle.world_model.specs.Node.{Node, is_node}
 use Rattle.world_model.specs.Lives.{is_forked_by}
 use Rattle.world_model.specs.World.{World, numbers, node_count}
 use Rattle.world_model.specs.Census.{brings}
 use Rattle.world_laws.specs.Places.{DeedPlace, Unmade, InTable, InCheckpoint, InGrant, InGiveBack, InLeft, InKept, InHand, InExitTo, CallPlace, SentByRange, Beside}
 use Rattle.world_laws.specs.Sights.{node_of, frames_to, directory_of, stage_of}
-use Rattle.world_laws.specs.Plays.{Hold, PlayStep, play, plays, begin, brings_checkpoint, Belief, Nowhere, believed, is_there, is_has, placed_in, News, news, finds_place, is_call_on}
+use Rattle.world_laws.specs.Plays.{Hold, PlayStep, play, plays, begin, brings_checkpoint, Belief, Nowhere, believed, is_there, is_has, placed_in, News, news, finds_place, is_call_on, is_cancel_on}
 
 -- the node whose block forks a block, 0 for none
 abbrev pub first_that : (ℕ → Bool) → List ℕ → ℕ
@@ -51,11 +51,14 @@ range_steps_if false s = []
 abbrev pub leases_name : Name → Kind → ℕ → Bool
 leases_name name kind first = is_same_kind (kind_of name) kind && list_any (nat_eq (number_of name)) (lease_of first)
 
-abbrev pub range_steps_of : (ℕ → CallPlace) → Name → Frame → List RangeStep
-range_steps_of call name (frames.Forward asked) =
+-- a withdrawal goes there as its call does, as long as the name isn't used
+abbrev pub range_steps_of : Bool → (ℕ → CallPlace) → Name → Frame → List RangeStep
+range_steps_of used call name (frames.Forward asked) =
     range_steps_if (is_call_on name asked && is_sent_by_range (call asked.caller)) IsSentThere
-range_steps_of call name (frames.Lease kind first) = range_steps_if (leases_name name kind first) IsLeased
-range_steps_of call name frame = []
+range_steps_of used call name (frames.Cancel asked) =
+    range_steps_if (not used && is_cancel_on name asked) IsSentThere
+range_steps_of used call name (frames.Lease kind first) = range_steps_if (leases_name name kind first) IsLeased
+range_steps_of used call name frame = []
 
 -- no lease with the number stands behind the call
 abbrev pub leases_first : List RangeStep → Bool
@@ -70,8 +73,9 @@ pub record NameSight : Type 0 where
   pub place : Option Place
   pub maker : Option ℕ
   pub stays : ℕ → Bool
-  -- the kernel's part, and where the deed is
+  -- the kernel's part, the body, and where the deed is
   pub used : Bool
+  pub part : Body
   pub body : Body
   pub deed : DeedPlace
   -- the deeds of it: at each node, in the stream to a node from a node, and in parcels that are held for a process, or
@@ -108,15 +112,16 @@ name_sight script w hand b name =
       maker = maker d name;
       stays = stays d;
       used = is_used_name b.kernel name;
-      body = body_in b.kernel name;
+      part = body_in b.kernel name;
+      body = b.body name;
       deed = b.deed name;
       held = held_at w name;
       brought = λ to «from». filter (brings name) (frames_to w to «from»);
       kept = λ pid. filter (is_parcel_with name) (held_for d (Proc pid));
       hand = filter (is_parcel_with name) hand;
       begins = λ h. begin (stage_of w h) (is_some (held_at w name h)) (comes_to script w name h);
-      steps = λ h. plays b.call name (frames_to w h 1);
-      ranges = λ h. flat_map (range_steps_of b.call name) (frames_to w h 1);
+      steps = λ h. plays (is_used_name b.kernel name) b.call name (frames_to w h 1);
+      ranges = λ h. flat_map (range_steps_of (is_used_name b.kernel name) b.call name) (frames_to w h 1);
       placed = λ q. placed_in name (frames_to w 1 q);
       news = λ q. news name (is_used_name b.kernel name && is_maker (maker d name) q) (frames_to w 1 q);
     }
@@ -233,7 +238,7 @@ pub record IsTold (pids : ℕ → ℕ) (name : Name) (is_used : Bool) (made_by :
   pub says : SaysOf pids name sender node
   pub other : node ≢ 1
 
--- what is held for a name: calls on it, and the ends of its process's children
+-- what is held for a name: calls on it, withdrawals of such calls, and the ends of its process's children
 abbrev pub IsItemFor : Name → Held → Type 0
 IsItemFor name (Request asked) = is_call_on name asked ≡ true
 IsItemFor name (Ending parcel) = name ≡ Proc parcel.parent
@@ -260,7 +265,10 @@ pub record IsBoundRightly (name : Name) (born : ℕ → Bool) (to : ℕ) : Type 
   pub is_born : born to ≡ true
 
 pub record NameHolds (script : Script) (pids : ℕ → ℕ) (born : ℕ → Bool) (name : Name) (x : NameSight) : Type 0 where
-  -- its deed is in one place, with the kernel's part; nothing has the deed of an unused name
+  -- its body is the kernel's part, with those who wait there, who have nodes of the script
+  pub parts : bare x.body ≡ x.part
+  pub callers : AllByRecursion (λ w. is_node script w.caller ≡ true) (waiters_of x.body)
+  -- its deed is in one place, with its body; nothing has the deed of an unused name
   pub made : (x.deed ≡ Unmade) ↔ (x.used ≡ false)
   pub place_fits : may_be_at (is_object name) x.deed ≡ true
   pub tables : (h : ℕ) → x.held h ≡ held_as x.deed x.body h

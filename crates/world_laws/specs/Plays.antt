@@ -1,7 +1,8 @@
 -- The directory is what each owner will hold once it has taken all that is on its way to it from the leader. So what is
 -- on its way is played.
-use Rattle.std.specs.Prelude.{ℕ, Bool, true, false, ◌&&◌, ◌||◌, nat_eq, List, [], ◌∷◌, Option, Some, None, if◌then◌else◌}
+use Rattle.std.specs.Prelude.{ℕ, Bool, true, false, not, ◌&&◌, ◌||◌, nat_eq, List, [], ◌∷◌, Option, Some, None, if◌then◌else◌}
 use Rattle.std.specs.List.{flat_map, filter}
+use Rattle.std.specs.Option.{option_map_or}
 use Rattle.pico_base.specs.declared.call.Home.{Home}
 use Rattle.pico_base.specs.declared.call.Home.TheVariants as homes
 use Rattle.pico_base.specs.declared.numbers.Name.{Name}
@@ -10,10 +11,12 @@ use Rattle.pico_base.specs.Home.{home_of}
 use Rattle.rpc_frame.specs.declared.asked.Asked.{Asked}
 use Rattle.rpc_frame.specs.declared.frame.Frame.{Frame}
 use Rattle.rpc_frame.specs.declared.frame.Frame.TheVariants as frames
-use Rattle.node_model.specs.Kinds.{is_same_name}
+use Rattle.waiting_model.specs.Calls.{withdrawn_from}
+use Rattle.node_model.specs.Kinds.{is_same_name, is_object}
+use Rattle.node_model.specs.Carrying.{is_removal}
 use Rattle.node_model.specs.Directory.{Place, At, Coming, has_deed_of}
 use Rattle.world_model.specs.Node.{Stage, Left}
-use Rattle.world_laws.specs.Places.{CallPlace, SentByPlace}
+use Rattle.world_laws.specs.Places.{CallPlace, SentByPlace, SentByRange}
 
 -- a node holds the name's deed, or it doesn't, or it holds nothing any more
 pub data Hold : Type 0 where
@@ -55,10 +58,6 @@ abbrev pub steps_if : Bool → PlayStep → List PlayStep
 steps_if true s = s ∷ []
 steps_if false s = []
 
-abbrev pub is_sent_by_place : CallPlace → Bool
-is_sent_by_place (SentByPlace to) = true
-is_sent_by_place place = false
-
 -- a call on the name, a removal or not
 abbrev pub is_home_on : Name → Home → Bool
 is_home_on name (homes.At other) = is_same_name name other
@@ -68,21 +67,37 @@ is_home_on name home = false
 abbrev pub is_call_on : Name → Asked → Bool
 is_call_on name asked = is_home_on name (home_of asked.pid asked.call)
 
-abbrev pub needs_deed : (ℕ → CallPlace) → Name → Asked → Bool
-needs_deed call name asked = is_call_on name asked && is_sent_by_place (call asked.caller)
+-- A call that was sent by the name's place needs the deed. Where the name is used, so does a call on a queue or a set
+-- but a removal that was sent by the range of the name's number: it never bounces, so that no withdrawal overtakes it.
+abbrev pub is_lasting : Asked → Bool
+is_lasting asked = not (is_removal asked.call)
 
-abbrev pub steps_of : (ℕ → CallPlace) → Name → Frame → List PlayStep
-steps_of call name (frames.Grant deed) = steps_if (is_same_name name deed.name) Comes
-steps_of call name (frames.Checkpoint pid parent deed vars) = steps_if (is_same_name name deed.name) Comes
-steps_of call name (frames.ExitTo parcel) =
+abbrev pub needs_by : Bool → CallPlace → Bool
+needs_by lasting (SentByPlace to) = true
+needs_by lasting (SentByRange to) = lasting
+needs_by lasting place = false
+
+abbrev pub needs_deed : Bool → (ℕ → CallPlace) → Name → Asked → Bool
+needs_deed used call name asked =
+    is_call_on name asked && needs_by (used && (is_object name && is_lasting asked)) (call asked.caller)
+
+-- a withdrawal of a call on this queue or set
+abbrev pub is_cancel_on : Name → Asked → Bool
+is_cancel_on name asked = is_object name && option_map_or (is_same_name name) (withdrawn_from asked.call) false
+
+abbrev pub steps_of : Bool → (ℕ → CallPlace) → Name → Frame → List PlayStep
+steps_of used call name (frames.Grant deed) = steps_if (is_same_name name deed.name) Comes
+steps_of used call name (frames.Checkpoint pid parent deed vars) = steps_if (is_same_name name deed.name) Comes
+steps_of used call name (frames.ExitTo parcel) =
     if has_deed_of name parcel then Comes ∷ [] else steps_if (is_same_name name (Proc parcel.parent)) IsNeeded
-steps_of call name (frames.Recall other) = steps_if (is_same_name name other) Goes
-steps_of call name frames.RecallAll = AllGo ∷ []
-steps_of call name (frames.Forward asked) = steps_if (needs_deed call name asked) IsNeeded
-steps_of call name frame = []
+steps_of used call name (frames.Recall other) = steps_if (is_same_name name other) Goes
+steps_of used call name frames.RecallAll = AllGo ∷ []
+steps_of used call name (frames.Forward asked) = steps_if (needs_deed used call name asked) IsNeeded
+steps_of used call name (frames.Cancel asked) = steps_if (used && is_cancel_on name asked) IsNeeded
+steps_of used call name frame = []
 
-abbrev pub plays : (ℕ → CallPlace) → Name → List Frame → List PlayStep
-plays call name frames_there = flat_map (steps_of call name) frames_there
+abbrev pub plays : Bool → (ℕ → CallPlace) → Name → List Frame → List PlayStep
+plays used call name frames_there = flat_map (steps_of used call name) frames_there
 
 -- how it begins: nothing is held where the node has left; else the deed is in the table, or in a Checkpoint that isn't
 -- from the leader, or not
