@@ -1,5 +1,5 @@
 -- A node takes the reply to its call.
-use Rattle.std.proofs.Common.{◌≡◌, ◌≢◌, ◌⊎◌, ℕ, ◌≤◌, Bool, true, false, ◌&&◌, not, cond, if◌then◌else◌, List, [], ◌∷◌, ◌++◌, slice_get, filter, nat_eq, Contains, All, Option, Some, None, option_and_then, refl, ap, sym, subst, ◌∙◌, inl, inr, arith}
+use Rattle.std.proofs.Common.{◌≡◌, ◌≢◌, ◌⊎◌, ℕ, ◌≤◌, Bool, true, false, ◌&&◌, not, cond, if◌then◌else◌, List, [], ◌∷◌, ◌++◌, slice_get, filter, nat_eq, Contains, All, Option, Some, None, option_and_then, append-nil, refl, ap, sym, subst, ◌∙◌, inl, inr, arith}
 use Rattle.std.proofs.lemmas.Bool.{cases_eq, eqb-true, eq-eqb, ne_eqb, false≢true}
 use Rattle.std.proofs.lemmas.List.Elements.{All-cons, All-filter, All-take, All-weaker, All-contains, All-contains_itself}
 use Rattle.pico_base.specs.declared.call.Call.{Call}
@@ -20,17 +20,22 @@ use Rattle.node_model.specs.Kinds.{for_kind, is_same_name}
 use Rattle.node_model.specs.Directory.{Directory, held_for}
 use Rattle.node_model.specs.Cache.{Cache, learn, forget, max_cached}
 use Rattle.node_model.specs.Caller.{Caller, lines_of, answer_call}
+use Rattle.node_model.specs.Serving.{waiting_as}
+use Rattle.waiting_model.specs.Marks.{Alive}
 use Rattle.world_model.specs.Node.{Node, Stage, Unborn, Living, Leaving, Left, Over, under_way_as}
 use Rattle.world_model.specs.Step.{Step, step_to}
 use Rattle.world_model.specs.Calls.{take_answer, answered_by, end_with_reply, with_learnt, is_for_others}
 use Rattle.world_model.specs.World.{World, world_after}
-use Rattle.world_laws.specs.Places.{CallPlace, Idle, AsksLease, HasLease, InAsk, InRequest, InNotOwner, SentByPlace, SentByRange, InBounce, IsHeld, IsInHand, InAnswer, Ends, Beside, call_in}
+use Rattle.world_laws.specs.Places.{CallPlace, Idle, AsksLease, HasLease, InAsk, InRequest, InNotOwner, SentByPlace, SentByRange, InBounce, IsHeld, IsInHand, Parked, Waits, InAnswer, Ends, Beside, call_in}
 use Rattle.world_laws.specs.Sights.{node_of, directory_of, is_born_in, is_born_stage}
-use Rattle.world_laws.specs.Callers.{CallSight, call_sight, CallHolds, HasCall, HasCallOrNone, IsFree, FreeIn, IsMade, IsJustThere, IsNowhere, asked_of, only_if, is_in_stream, frame_at, is_held_at, is_about, is_item_about, is_at_work, is_end_stage, is_end_place, may_be_in, IsSoFar, tries_made}
+use Rattle.world_laws.specs.Callers.{CallSight, call_sight, CallHolds, HasCall, HasCallOrNone, IsFree, FreeIn, IsMade, IsJustThere, IsNowhere, asked_of, only_if, is_in_stream, frame_at, is_held_at, is_waiting_at, is_about, is_item_about, is_at_work, is_end_stage, is_end_place, may_be_in, IsSoFar, tries_made}
+use Rattle.world_laws.specs.Cancels.{CancelHolds, Nothing, cancel_sight, has_reply, is_held_cancel_of}
 use Rattle.world_laws.specs.Ranges.{has_lease}
+use Rattle.world_laws.specs.Wholes.{HasMarks, under_way_at}
 use Rattle.world_laws.specs.Families.{NodeHolds}
 use Rattle.world_laws.specs.Invariant.{Holds}
 use Rattle.world_laws.proofs.Stays.{IsMore, SameCall, call-stays, name-stays, kind-stays}
+use Rattle.world_laws.proofs.Replied.{cancel-over}
 use Rattle.world_laws.proofs.Changes.{Changes, filter-is-list-map, only-stayed, read-same}
 use Rattle.world_laws.proofs.LeftAlone.{LeavesName, same-directory, name-left-alone, kind-left-alone, few-still}
 use Rattle.world_laws.proofs.Steps.{KeepsAs, Heads, world_without, take-steps, changes-by-take}
@@ -38,7 +43,9 @@ use Rattle.world_laws.proofs.Lines.{IsAnswered, answered, due-at-line}
 use Rattle.world_laws.proofs.NameFacts.{has_left}
 use Rattle.world_laws.proofs.Heads.{head-is, head-may-be, head-from-another, rest-stays, others-stay}
 use Rattle.rule_laws.proofs.Nodes.{holds-stay}
-use Rattle.rule_laws.proofs.CallMoves.{IsCallMove, same-but-call, call-move-keeps, move-born, steps-still, ranges-still}
+use Rattle.world_laws.proofs.Wholes.{LeavesWhole, marks-of-others, whole-left-alone}
+use Rattle.rule_laws.proofs.CallMoves.{IsCallMove, cancel-if-same, same-but-call, call-move-keeps, move-born, steps-still, ranges-still}
+use Rattle.rule_laws.proofs.Withdrawals.{old-still, replied-uncancelled}
 
 -- ---- what an Answer says of the call
 
@@ -105,6 +112,8 @@ answer-of (InAnswer node answer) asked p q ticket reply fs h =
 answer-of Idle asked p q ticket reply fs h = absurd (not-none _ fs (sym h))
 answer-of (IsHeld name) asked p q ticket reply fs h = absurd (not-none _ fs (sym h))
 answer-of IsInHand asked p q ticket reply fs h = absurd (not-none _ fs (sym h))
+answer-of Parked asked p q ticket reply fs h = absurd (not-none _ fs (sym h))
+answer-of (Waits name) asked p q ticket reply fs h = absurd (not-none _ fs (sym h))
 answer-of Ends asked p q ticket reply fs h = absurd (not-none _ fs (sym h))
 answer-of (AsksLease kind) asked p q ticket reply fs h = absurd (no-answer _ _ ticket reply fs refl h)
 answer-of (HasLease kind first) asked p q ticket reply fs h = absurd (no-answer _ _ ticket reply fs refl h)
@@ -120,7 +129,15 @@ answer-of (InBounce node) asked p q ticket reply fs h = absurd (no-answer _ _ ti
 -- it is ended, at the place to which the history has come
 abbrev pub ended : CallSight → Caller → CallSight
 ended x caller =
-    record x { caller = caller; call = Idle; frames_about = λ to sender. []; held = λ name. []; hand = [] }
+    record x {
+      caller = caller;
+      call = Idle;
+      frames_about = λ to sender. [];
+      held = λ name. [];
+      hand = [];
+      waiters = λ
+          name. [];
+    }
 
 free-in : (script : Script) (p : ℕ) (x : CallSight) (stage : Stage) → is_at_work stage ≡ true
     → is_end_stage stage ≡ false → IsFree script p x → FreeIn script p x stage
@@ -150,6 +167,7 @@ call-ended script p born x call q reply next holds has place answer =
               in_streams = λ to sender. refl;
               held_for_names = λ name. refl;
               in_hand = refl;
+              waiting = λ name. refl;
             };
             idle = refl;
             free = free-in script p (ended x next) x.stage has.at_work no-end
@@ -388,7 +406,30 @@ module _ (script : Script) (w : World) (b : Beside) (holds : Holds script w [] b
           ∙ about-first)
           ∙ is-answer.alone
 
-  move : IsCallMove script w next [] [] b b.deed calls-now p after-node takes [] p
+  -- its process isn't parked
+  own-marks : (a : Alive) → HasMarks (b.call p) (under_way_at w p) a → HasMarks (calls-now p) (under_way_at next p) a
+  own-marks a marks =
+      subst (λ place. HasMarks place (under_way_at next p) a)
+      (sym (ap (λ t. if t then Idle else b.call p) (eq-eqb p p refl)))
+      (subst (λ o. HasMarks Idle o a) (sym (ap (λ (m : Node). m.caller.under_way) changes.here ∙ is-answered.free))
+      (subst (λ o. HasMarks (InAnswer q reply) o a) found.is
+      (subst (λ place. HasMarks place (under_way_at w p) a) is-answer.place_is marks)))
+
+  leaves-whole : LeavesWhole w next b moved
+  leaves-whole =
+      record {
+        journal_is = changes.journal ∙ append-nil w.journal;
+        lines_are = refl;
+        kernel_is = refl;
+        whole_is = refl;
+        pids_are = λ y. refl;
+        bodies_are = λ name. refl;
+        marks_still = λ y a lives. marks-of-others w next b.call calls-now p
+            (λ y d. ap (λ t. if t then Idle else b.call y) (ne_eqb p y (λ e. d (sym e))))
+            (λ y d. ap (λ (m : Node). m.caller.under_way) (changes.others y d)) y a (λ e. own-marks a);
+      }
+
+  move : IsCallMove script w next [] [] Nothing Nothing b moved p after-node takes [] p
   move =
       record {
         stage = refl;
@@ -402,18 +443,25 @@ module _ (script : Script) (w : World) (b : Beside) (holds : Holds script w [] b
         calls = λ y d. ap (λ t. if t then Idle else b.call y) (ne_eqb p y (λ e. d (sym e)));
         hand_of_others = λ y d. refl;
         parcels_at_hand = λ parcel there. there;
+        whole = whole-left-alone w next b moved Nothing leaves-whole;
+        waiters_of_others = λ y d name. refl;
+        cancel_of_others = λ y d. refl;
+        owed_of_others = λ y d same h. cancel-if-same y Nothing _ _ refl same h;
         plain_taken = (refl, tt);
         plain_sent = tt;
         no_birth_taken = (refl, tt);
         no_birth_sent = tt;
         of_no_other = λ y d. (ne_eqb p y (λ e. d (sym e)), tt);
         sent_of_no_other = λ y d. tt;
+        no_cancel_taken = λ y d. (refl, tt);
+        no_cancel_sent = λ y d. tt;
         may_be_sent = tt;
         to_others = tt;
       }
 
   more : IsMore (is_born_in w) (is_born_in next)
-  more = move-born script w next [] [] b b.deed calls-now p after-node takes [] p h.low h.high holds changes move
+  more = move-born script w next [] [] Nothing Nothing b moved p after-node takes [] [] p h.low h.high holds changes
+      move
 
   sight-now : SameCall (ended x next-caller) (call_sight next [] moved p)
   sight-now =
@@ -433,6 +481,8 @@ module _ (script : Script) (w : World) (b : Beside) (holds : Holds script w [] b
             ∙ there.held_for_names name
             ∙ ap (λ y. only_if (is_held_at y name) (Request (asked_of x call))) is-answer.place_is);
         hand = refl;
+        waiters = λ name. sym (there.waiting name
+            ∙ ap (λ y. only_if (is_waiting_at y name) (waiting_as (asked_of x call))) is-answer.place_is);
       }
 
   call-now : CallHolds script p (is_born_in next) (call_sight next [] moved p)
@@ -440,20 +490,39 @@ module _ (script : Script) (w : World) (b : Beside) (holds : Holds script w [] b
       call-stays script p (is_born_in w) (is_born_in next) _ _ more sight-now
       (call-ended script p (is_born_in w) x call q reply next-caller call-holds has is-answer.place_is is-answered)
 
+  -- it had no withdrawal
+  cancel-now : CancelHolds p Nothing (cancel_sight next [] moved p)
+  cancel-now =
+      let h_cancel : CancelHolds p Nothing (cancel_sight w [] b p) = holds.cancels p h.low h.high
+      in cancel-over p Nothing Nothing (cancel_sight w [] b p) (cancel_sight next [] moved p)
+      (old-still script p w next after-node takes [] [] changes [] [] b moved p
+      (sym (ap (λ (m : Node). m.pid) changes.here))
+      (subst (λ t. n.caller.ticket ≤ t)
+      (sym (ap (λ (m : Node). m.caller.ticket) changes.here ∙ is-answered.ticket_is)) (omega arith))
+      (λ name. ap (λ (d : Directory). filter (is_held_cancel_of p) (held_for d name)) same-there) refl
+      (refl, tt) tt)
+      (replied-uncancelled p Nothing (cancel_sight w [] b p) h_cancel call found.is
+      (ap has_reply is-answer.place_is))
+      (inl (ap (λ (m : Node). m.caller.under_way) changes.here ∙ is-answered.free))
+      (λ owed. absurd (false≢true owed)) h_cancel
+
   leaves : (m : Name) → LeavesName w next [] [] b moved p after-node changes.left m
   leaves m =
       record {
         directory = same-directory (directory_of w) (directory_of next) same-there m;
         used_is = refl;
+        part_is = refl;
         body_is = refl;
         deed_is = refl;
         held_is = refl;
         begins_is = λ holds_it comes. refl;
         hand_is = refl;
-        steps_are = λ y. steps-still script w next [] [] b b.deed calls-now p after-node takes [] p h.low h.high holds
-            changes move y (left-alone y 1) m;
-        ranges_are = λ y. ranges-still script w next [] [] b b.deed calls-now p after-node takes [] p h.low h.high holds
-            changes move y (left-alone y 1) m;
+        steps_are = λ used y. steps-still script w next [] [] Nothing Nothing b moved p after-node takes [] [] p h.low
+            h.high holds
+            changes move used y (left-alone y 1) m;
+        ranges_are = λ used y. ranges-still script w next [] [] Nothing Nothing b moved p after-node takes [] [] p h.low
+            h.high holds
+            changes move used y (left-alone y 1) m;
       }
 
   lease-same : (kind : Kind) (y : ℕ) → has_lease kind (calls-now y) ≡ has_lease kind (b.call y)
@@ -470,9 +539,10 @@ module _ (script : Script) (w : World) (b : Beside) (holds : Holds script w [] b
   answer-keeps =
       record {
         next = next;
-        is_step = take-steps script w p q frame rest after holds.shape h rule;
-        holds = call-move-keeps script w next [] [] b b.deed calls-now p after-node takes [] p h.low h.high holds
-            changes move call-now
+        is_step = take-steps script w p q frame rest after holds.shape h rule refl;
+        holds = call-move-keeps script w next [] [] Nothing Nothing b moved p after-node takes [] [] p h.low h.high
+            holds
+            changes move call-now cancel-now
             (λ m. name-stays script b.pids (is_born_in w) (is_born_in next) m _ _ more
             (name-left-alone script p w next after-node takes [] [] changes [] [] b moved m (leaves m) (refl, tt) tt)
             (holds.names m))

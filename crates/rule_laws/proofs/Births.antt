@@ -1,6 +1,8 @@
 -- A node is born: it takes the Checkpoint of the process that its block is forked as.
 use Rattle.std.proofs.Common.{◌≡◌, ◌≢◌, ◌⊎◌, ℕ, ◌≤◌, Bool, true, false, ◌&&◌, ◌||◌, not, cond, if◌then◌else◌, List, [], ◌∷◌, ◌++◌, drop, filter, flat_map, nat_eq, Contains, Option, Some, None, is_some, option_and_then, refl, ap, sym, subst, ◌∙◌, inl, inr, arith, append-nil}
+use Rattle.std.specs.List.{AllByRecursion}
 use Rattle.std.proofs.lemmas.Bool.{cases_eq, eqb-true, eq-eqb, ne_eqb, false≢true}
+use Rattle.pico_base.specs.declared.call.Call.{Call}
 use Rattle.pico_base.specs.declared.numbers.Kind.{Kind}
 use Rattle.pico_base.specs.declared.numbers.Name.{Name}
 use Rattle.pico_base.specs.declared.numbers.Name.TheVariants.{Proc, Msg, Sem}
@@ -8,6 +10,7 @@ use Rattle.pico_base.specs.declared.script.Block.{Block}
 use Rattle.pico_base.specs.declared.script.Line.{Line}
 use Rattle.pico_base.specs.declared.script.Script.{Script}
 use Rattle.pico_base.specs.declared.script.Event.TheVariants as events
+use Rattle.rpc_frame.specs.declared.asked.Asked.{Asked}
 use Rattle.rpc_frame.specs.declared.deed.PackedDeed.{PackedDeed}
 use Rattle.rpc_frame.specs.declared.frame.Frame.{Frame}
 use Rattle.rpc_frame.specs.declared.frame.Frame.TheVariants as frames
@@ -19,11 +22,14 @@ use Rattle.kernel_model.specs.Script.{Vars}
 use Rattle.kernel_model.specs.Fitting.{block_place, block_at, with_exit}
 use Rattle.kernel_model.specs.Valid.{IsValid}
 use Rattle.kernel_laws.proofs.ValidLaws.{reachable_kernels_are_valid_lemma}
-use Rattle.entry_laws.specs.Entering.{HasHistory, IsChildIn, is_used_name}
-use Rattle.node_model.specs.declared.held.Held.TheVariants.{Ending}
+use Rattle.entry_laws.specs.Entering.{IsChildIn, is_used_name}
+use Rattle.entry_laws.proofs.History.{history-reachable}
+use Rattle.waiting_model.specs.Calls.{waits_at}
+use Rattle.node_model.specs.declared.held.Held.{Held}
+use Rattle.node_model.specs.declared.held.Held.TheVariants.{Request, Ending}
 use Rattle.node_model.specs.Kinds.{is_object, number_of, for_kind, get_named, put_named, none_named}
 use Rattle.node_model.specs.Directory.{Directory, is_known, place_of, maker, stays, held_for, is_parcel_with}
-use Rattle.node_model.specs.Bodies.{Body, Living as LivingBody, process_body, body_in}
+use Rattle.node_model.specs.Bodies.{Body, Living as LivingBody, process_body}
 use Rattle.node_model.specs.Caller.{Caller, new_caller, caller_place, lines_of, lines_in}
 use Rattle.node_model.specs.Spelling.{pack, read_deed}
 use Rattle.world_model.specs.Node.{Node, Stage, Unborn, Living, Leaving, Left, Over, is_unborn, unborn_node}
@@ -37,19 +43,27 @@ use Rattle.world_laws.specs.Deeds.{DeedsAreRead}
 use Rattle.world_laws.specs.Plays.{steps_if, Has, PlayStep, Comes, plays, play, begin, is_there, is_checkpoint_of, has_any, placed_in, news}
 use Rattle.world_laws.specs.Names.{NameSight, name_sight, NameHolds, held_at, held_as, comes_to, may_be_at, is_stream_of, is_kept_for, is_hand_place, node_in, IsBringer, IsItemWith, IsCheckpointOf, IsLeftOf, IsExitOf, OneIf, PlaysTo, belief_of, range_steps_of, forker, first_that, is_maker}
 use Rattle.world_laws.specs.Callers.{CallSight, call_sight, CallHolds, HasNoCall, HasCallOrNone, IsNowhere, is_about, is_item_about, is_end_place}
+use Rattle.world_laws.specs.Cancels.{CancelHolds, CancelSight, IsCancelFrame, IsCancelItem, IsCancelOf, Nothing, OfCall, cancel_sight, is_cancel_of, is_held_cancel_of}
+use Rattle.world_laws.specs.Wholes.{HasMarks, HasWhole, under_way_at}
 use Rattle.world_laws.specs.Ways.{is_leaving_frame, is_recall_all, is_left_frame, WaySight, way_sight, Way, IsHere, knows_parent, here, tells, collected, over, gone}
 use Rattle.world_laws.specs.Ranges.{KeysHold}
 use Rattle.world_laws.specs.Families.{NodeHolds, HoldsIn, FamilyHolds, IsWhereFor, RestsBelow, IsWithParent, IsNewAt, IsAwaited, IsCheckpointFor, CheckpointIn, checkpoints_to, is_first_stage}
 use Rattle.world_laws.specs.Invariant.{Holds, IsLeading, process_deed}
 use Rattle.world_laws.proofs.Named.{name-cases, same-name, other-name, get-put-same-name, get-put-other-name}
 use Rattle.world_laws.proofs.Stays.{IsMore, SameName, SameCall, SameWay, name-stays, call-stays, way-stays, kind-stays}
-use Rattle.world_laws.proofs.Changes.{Changes, filter-is-list-map, flat_map-is-list-map, made-same, only-stayed, still-born, directory-same}
+use Rattle.world_laws.proofs.Changes.{Changes, filter-is-list-map, flat_map-is-list-map, made-same, only-stayed, still-born, directory-same, read-same}
 use Rattle.world_laws.proofs.LeftAlone.{LeavesName, LeavesCall, same-directory, name-left-alone, call-left-alone, parcel-was-there, sender-stays, kind-left-alone, other-node-stays, frames-still-fit, few-still}
+use Rattle.world_laws.proofs.Cancels.{LeavesCancel, cancel-left-alone, is_item_of}
+use Rattle.world_laws.proofs.Frames.{all-weaker}
+use Rattle.world_laws.proofs.Wholes.{whole-left-alone}
 use Rattle.world_laws.proofs.Steps.{KeepsAs, Heads, world_without, take-steps, changes-by-take}
 use Rattle.world_laws.proofs.NameFacts.{play-comes, begins-with, has_left, plays-by}
 use Rattle.kernel_laws.proofs.Lists.{all-at}
 use Rattle.world_laws.proofs.Heads.{head-is, head-may-be, head-from-another, rest-stays, others-stay}
+use Rattle.rule_laws.proofs.CallMoves.{cancel-if-same}
 use Rattle.rule_laws.proofs.Grants.{IsAlone, is-alone}
+use Rattle.rule_laws.proofs.Withdrawals.{idle-uncancelled}
+use Rattle.rule_laws.proofs.own.Bodies.{process-body-is}
 
 -- ---- the frame
 
@@ -169,6 +183,8 @@ module _ (script : Script) (pids : ℕ → ℕ) (born : ℕ → Bool) (name : Na
   pub name-housed : NameHolds script pids born name (housed x p rest)
   name-housed =
       record {
+        parts = h.parts;
+        callers = h.callers;
         made = (λ e. absurd (not-unmade e), λ u. absurd (false≢true (sym u ∙ checkpointed-is-used)));
         place_fits = refl;
         tables = λ q. refl;
@@ -216,6 +232,23 @@ first-lines script p vars = by-block (block_at script p)
         ap (λ lines. record { left = lines; tried = 0; vars = vars })
         (none-dropped (with_exit block.lines))
 
+-- ---- who has started no call has withdrawn none
+
+module _ (x : CancelSight) (none : x.caller.ticket ≡ 0) where
+  no-withdrawal : (asked : Asked) → IsCancelOf x asked → ⊥
+  no-withdrawal asked h =
+      let low = h.low
+      in let high = h.high
+      in omega (arith, low, high, none)
+
+  no-cancel-frame : (f : Frame) → IsCancelFrame x f → ⊥
+  no-cancel-frame (frames.Cancel asked) h = no-withdrawal asked h
+  no-cancel-frame f h = h
+
+  no-cancel-item : (item : Held) → IsCancelItem x item → ⊥
+  no-cancel-item (Request asked) h = no-withdrawal asked h
+  no-cancel-item (Ending parcel) h = h
+
 -- ---- which node forks
 
 first-that-tests : (test : ℕ → Bool) (ns : List ℕ) → first_that test ns ≢ 0 → test (first_that test ns) ≡ true
@@ -243,7 +276,7 @@ not-true : (t : Bool) → not t ≡ true → t ≡ false
 not-true false h = refl
 not-true true h = absurd (false≢true h)
 
-module _ (script : Script) (w : World) (b : Beside) (holds : Holds script w [] b) (reads : DeedsAreRead b.kernel)
+module _ (script : Script) (w : World) (b : Beside) (holds : Holds script w [] b) (reads : DeedsAreRead b.kernel b.body)
     (p q pid parent : ℕ) (packed : PackedDeed) (vars : Vars)
     (rest : List Frame) (h : Heads script w p q (frames.Checkpoint pid parent packed vars) rest) where
   abbrev frame : Frame
@@ -297,7 +330,7 @@ module _ (script : Script) (w : World) (b : Beside) (holds : Holds script w [] b
       by-test false e = absurd (not-unmade (sym is-checkpointed.deed_is ∙ known.made.1 e))
 
   valid : IsValid b.kernel
-  valid = let history = holds.history in reachable_kernels_are_valid_lemma b.kernel (w.journal, history.legal)
+  valid = reachable_kernels_are_valid_lemma b.kernel (history-reachable script b.lines b.kernel b.places holds.history)
 
   -- the process is this node's
 
@@ -378,7 +411,13 @@ module _ (script : Script) (w : World) (b : Beside) (holds : Holds script w [] b
       (subst (λ v. IsNewAt v (b.deed (Proc (b.pids p)))) living.1 family.fresh)
 
   body-is : x.body ≡ LivingBody row
-  body-is = ap (body_in b.kernel) name-is ∙ ap process_body process-is
+  body-is =
+      ap b.body name-is
+      ∙ process-body-is b.kernel (b.body (Proc (b.pids p))) (b.pids p)
+      (let its : NameHolds script b.pids (is_born_in w) (Proc (b.pids p)) (name_sight script w [] b (Proc (b.pids p))) =
+      holds.names (Proc (b.pids p))
+      in its.parts)
+      ∙ ap process_body process-is
 
   checkpoint : CheckpointIn script b.pids b.places p (checkpoints_to script w p) (InCheckpoint p)
   checkpoint = subst (λ d. CheckpointIn script b.pids b.places p
@@ -543,28 +582,29 @@ module _ (script : Script) (w : World) (b : Beside) (holds : Holds script w [] b
 
   -- the names
 
-  plays-on : 2 ≤ p → PlaysTo Has (plays b.call name (changes.left p 1)) (is_there p (belief_of x))
+  plays-on : 2 ≤ p → PlaysTo Has (plays x.used b.call name (changes.left p 1)) (is_there p (belief_of x))
   plays-on low =
       elim (cases_eq q 1) [
         | inl e ↦
             let old : PlaysTo (x.begins p) (x.steps p) (is_there p (belief_of x)) = known.plays p low
-            in let come = play-comes (x.begins p) old.last (plays b.call name (changes.left p 1))
+            in let come = play-comes (x.begins p) old.last (plays x.used b.call name (changes.left p 1))
             (ap (λ ss. play (x.begins p) ss)
-            (sym (subst (λ z. plays b.call name (frames_to w p z) ≡ Comes ∷ plays b.call name (changes.left p z)) e
+            (sym (subst (λ z. plays x.used b.call name (frames_to w p z)
+            ≡ Comes ∷ plays x.used b.call name (changes.left p z)) e
             steps-were)) ∙ old.plays)
             in record { last = old.last; plays = come.1; agrees = old.agrees }
         | inr d ↦
             subst (λ ss. PlaysTo Has ss (is_there p (belief_of x)))
-            (sym (others-stay script p q w next after.node frame [] [] changes (λ t s fs. plays b.call name fs)
+            (sym (others-stay script p q w next after.node frame [] [] changes (λ t s fs. plays x.used b.call name fs)
             (λ t s. flat_map-is-list-map _) p 1 (inr (λ e. d (sym e)))))
             (subst (λ v. PlaysTo v (x.steps p) (is_there p (belief_of x))) (begins-has d) (known.plays p low))
       ]
     where
-      steps-were : plays b.call name (frames_to w p q) ≡ Comes ∷ plays b.call name (changes.left p q)
+      steps-were : plays x.used b.call name (frames_to w p q) ≡ Comes ∷ plays x.used b.call name (changes.left p q)
       steps-were =
-          rest-stays script p q w next after.node frame [] [] changes (λ t s fs. plays b.call name fs)
+          rest-stays script p q w next after.node frame [] [] changes (λ t s fs. plays x.used b.call name fs)
           (λ t s. flat_map-is-list-map _)
-          ∙ ap (λ t. (steps_if t Comes ++ []) ++ plays b.call name (changes.left p q)) (same-name name name refl)
+          ∙ ap (λ t. (steps_if t Comes ++ []) ++ plays x.used b.call name (changes.left p q)) (same-name name name refl)
 
       comes-here : q ≢ 1 → comes_to script w name p ≡ true
       comes-here d =
@@ -631,21 +671,21 @@ module _ (script : Script) (w : World) (b : Beside) (holds : Holds script w [] b
       ]
 
   abbrev rest-steps : List PlayStep
-  rest-steps = plays b.call name (changes.left p 1)
+  rest-steps = plays x.used b.call name (changes.left p 1)
 
-  steps-now : (y : ℕ) → (if nat_eq y p then rest-steps else x.steps y) ≡ plays b.call name (frames_to next y 1)
+  steps-now : (y : ℕ) → (if nat_eq y p then rest-steps else x.steps y) ≡ plays x.used b.call name (frames_to next y 1)
   steps-now y =
       elim (cases_eq y p) [
         | inl e ↦
             ap (λ t. if t then rest-steps else x.steps y) (eq-eqb y p e)
-            ∙ subst (λ z. rest-steps ≡ plays b.call name (frames_to next z 1)) (sym e)
-            (sym (only-stayed script p w next after.node takes [] [] changes (λ t s fs. plays b.call name fs)
+            ∙ subst (λ z. rest-steps ≡ plays x.used b.call name (frames_to next z 1)) (sym e)
+            (sym (only-stayed script p w next after.node takes [] [] changes (λ t s fs. plays x.used b.call name fs)
             (λ t s. flat_map-is-list-map _) tt p 1))
         | inr d ↦
             ap (λ t. if t then rest-steps else x.steps y) (ne_eqb y p d)
-            ∙ sym (only-stayed script p w next after.node takes [] [] changes (λ t s fs. plays b.call name fs)
+            ∙ sym (only-stayed script p w next after.node takes [] [] changes (λ t s fs. plays x.used b.call name fs)
             (λ t s. flat_map-is-list-map _) tt y 1
-            ∙ others-stay script p q w next after.node frame [] [] changes (λ t s fs. plays b.call name fs)
+            ∙ others-stay script p q w next after.node frame [] [] changes (λ t s fs. plays x.used b.call name fs)
             (λ t s. flat_map-is-list-map _) y 1 (inl d))
       ]
 
@@ -695,6 +735,7 @@ module _ (script : Script) (w : World) (b : Beside) (holds : Holds script w [] b
         maker = ap (λ y. maker y name) (sym same-there);
         stays = λ y. ap (λ z. stays z y) (sym same-there);
         used = refl;
+        part = refl;
         body = refl;
         deed = sym (ap (λ t. if t then InTable p else b.deed name) (same-name name name refl));
         held = held-now;
@@ -706,7 +747,7 @@ module _ (script : Script) (w : World) (b : Beside) (holds : Holds script w [] b
         begins = begins-now;
         steps = steps-now;
         ranges = λ y. sym (made-same script p w next after.node takes [] [] changes
-            (λ t s fs. flat_map (range_steps_of b.call name) fs) (λ t s. flat_map-is-list-map _) (refl, tt) tt y
+            (λ t s fs. flat_map (range_steps_of x.used b.call name) fs) (λ t s. flat_map-is-list-map _) (refl, tt) tt y
             1);
         placed = λ y. sym (made-same script p w next after.node takes [] [] changes
             (λ t s fs. placed_in name fs) (λ t s. flat_map-is-list-map _) (refl, tt) tt 1 y);
@@ -721,13 +762,14 @@ module _ (script : Script) (w : World) (b : Beside) (holds : Holds script w [] b
       record {
         directory = same-directory (directory_of w) (directory_of next) same-there m;
         used_is = refl;
+        part_is = refl;
         body_is = refl;
         deed_is = ap (λ t. if t then InTable p else b.deed m) (other-name name m (λ e. d (sym e)));
         held_is = nothing-else m d ∙ sym (empty-at m);
         begins_is = λ holds_it comes. ap (λ s. begin s holds_it comes) (sym unborn);
         hand_is = refl;
-        steps_are = λ y. refl;
-        ranges_are = λ y. refl;
+        steps_are = λ used y. refl;
+        ranges_are = λ used y. refl;
       }
 
   names : (m : Name) → NameHolds script b.pids (is_born_in next) m (name_sight script next [] moved m)
@@ -763,6 +805,7 @@ module _ (script : Script) (w : World) (b : Beside) (holds : Holds script w [] b
             in_streams = λ to sender. refl;
             held_for_names = nowhere.held_for_names;
             in_hand = nowhere.in_hand;
+            waiting = nowhere.waiting;
           };
           idle = no-call-here.idle;
           free = record {
@@ -802,6 +845,7 @@ module _ (script : Script) (w : World) (b : Beside) (holds : Holds script w [] b
             ∙ nowhere.in_streams to sender);
         held = λ m. ap (λ z. filter (is_item_about p) (held_for z m)) (sym same-there);
         hand = refl;
+        waiters = λ m. refl;
       }
 
   leaves-call : (y : ℕ) → y ≢ p → LeavesCall w next [] [] b moved p after.node y
@@ -813,6 +857,7 @@ module _ (script : Script) (w : World) (b : Beside) (holds : Holds script w [] b
         call_is = refl;
         held_is = λ m. ap (λ z. filter (is_item_about y) (held_for z m)) same-there;
         hand_is = refl;
+        waiters_are = λ m. refl;
       }
 
   calls-now : (y : ℕ) → 1 ≤ y → y ≤ node_count script
@@ -827,6 +872,83 @@ module _ (script : Script) (w : World) (b : Beside) (holds : Holds script w [] b
             (call-left-alone script p w next after.node takes [] [] changes [] [] b moved y (leaves-call y d)
             (refl, tt) tt) (holds.calls y low high)
       ]
+
+  -- the withdrawals
+
+  idle-here : n.caller.under_way ≡ None
+  idle-here = ap (λ (m : Node). m.caller.under_way) node-is
+
+  cancels-here : CancelHolds p Nothing (cancel_sight w [] b p)
+  cancels-here = holds.cancels p h.low h.high
+
+  cancel-first : CancelHolds p Nothing (cancel_sight next [] moved p)
+  cancel-first =
+      record {
+        of_call = subst (λ (o : Option Call). OfCall p false (cancel_sight next [] moved p) (b.call p) o)
+            (sym (ap (λ (m : Node). m.caller.under_way) changes.here))
+            (idle-uncancelled p Nothing (cancel_sight w [] b p) cancels-here idle-here);
+        frames = λ to sender. subst (λ fs. AllByRecursion (IsCancelFrame (cancel_sight next [] moved p)) fs)
+            (sym (made-same script p w next after.node takes [] [] changes
+            (λ t s fs. filter (is_cancel_of p) fs) (λ t s. filter-is-list-map (is_cancel_of p)) (refl, tt) tt to
+            sender))
+            (all-weaker (λ f e. absurd (no-cancel-frame (cancel_sight w [] b p) none-started f e))
+            (filter (is_cancel_of p) (frames_to w to sender)) (cancels-here.frames to sender));
+        held = λ m. subst
+            (λ (z : Directory). AllByRecursion (IsCancelItem (cancel_sight next [] moved p))
+            (filter (is_held_cancel_of p) (held_for z m))) (sym same-there)
+            (all-weaker (λ item e. absurd (no-cancel-item (cancel_sight w [] b p) none-started item e))
+            (filter (is_held_cancel_of p) (held_for (directory_of w) m)) (cancels-here.held m));
+        hand = tt;
+        owed = λ e. absurd (false≢true e);
+      }
+    where
+      none-started : n.caller.ticket ≡ 0
+      none-started = ap (λ (m : Node). m.caller.ticket) node-is
+
+  leaves-cancel : (y : ℕ) → y ≢ p → LeavesCancel w next [] [] b moved p after.node y
+  leaves-cancel y d =
+      record {
+        own = λ e. absurd (d e);
+        call_is = refl;
+        cancel_is = refl;
+        held_is = λ m. ap (λ z. filter (is_item_of y) (held_for z m)) same-there;
+        hand_is = refl;
+        nowhere = λ call is may l. record {
+          node = l.node;
+          is = l.is;
+          leaves = ap (λ z. stays z l.node) same-there ∙ l.leaves;
+          unknown = ap (λ z. is_known z (waits_at (node_of w y).pid call)) same-there ∙ l.unknown;
+        };
+      }
+
+  cancels-now : (y : ℕ) → 1 ≤ y → y ≤ node_count script → CancelHolds y Nothing (cancel_sight next [] moved y)
+  cancels-now y low high =
+      elim (cases_eq y p) [
+        | inl e ↦ subst (λ z. CancelHolds z Nothing (cancel_sight next [] moved z)) (sym e) cancel-first
+        | inr d ↦
+            cancel-if-same y Nothing (cancel_sight w [] b y) (cancel_sight next [] moved y) refl
+            (cancel-left-alone script p w next after.node takes [] [] changes [] [] b moved y (leaves-cancel y d)
+            (refl, tt) tt (refl, tt) tt) (holds.cancels y low high)
+      ]
+
+  -- the kernel in which callers wait
+
+  same-under-way : (y : ℕ) → under_way_at next y ≡ under_way_at w y
+  same-under-way y =
+      read-same script p w next after.node takes [] [] changes (λ (m : Node). m.caller.under_way) (sym idle-here) y
+
+  whole-now : HasWhole next moved
+  whole-now =
+      whole-left-alone w next b moved Nothing
+      (record {
+        journal_is = changes.journal ∙ append-nil w.journal;
+        lines_are = refl;
+        kernel_is = refl;
+        whole_is = refl;
+        pids_are = λ y. refl;
+        bodies_are = λ m. refl;
+        marks_still = λ y a lives. subst (λ o. HasMarks (b.call y) o a) (sym (same-under-way y));
+      }) holds.whole
 
   -- the ways
 
@@ -1012,17 +1134,18 @@ module _ (script : Script) (w : World) (b : Beside) (holds : Holds script w [] b
   checkpoint-keeps =
       record {
         next = next;
-        is_step = take-steps script w p q frame rest after holds.shape h rule;
+        is_step = take-steps script w p q frame rest after holds.shape h rule refl;
         holds = record {
           shape = changes.shape;
-          history = subst (λ j. HasHistory script j b.kernel b.places) (sym (changes.journal ∙ append-nil w.journal))
-              holds.history;
+          history = holds.history;
+          whole = whole-now;
           leading = subst (λ (z : Directory). IsLeading z) (sym same-there) holds.leading;
           pids = holds.pids;
           nodes = nodes-now;
           frames_fit = frames-still-fit script p w next after.node takes [] [] changes more holds.frames_fit tt tt;
           names = names;
           calls = calls-now;
+          cancels = cancels-now;
           ways = ways-now;
           parcels = λ parcel there. sender-stays script p w next after.node takes [] [] changes b.pids parcel
               (λ left. absurd (unborn-is-not-left left))

@@ -6,7 +6,7 @@ use Rattle.pico_base.specs.declared.numbers.Kind.{Kind}
 use Rattle.rpc_frame.specs.declared.asked.Asked.{Asked}
 use Rattle.rpc_frame.specs.declared.frame.Frame.{Frame}
 use Rattle.rpc_frame.specs.declared.frame.Frame.TheVariants as frames
-use Rattle.world_laws.specs.Places.{CallPlace, Idle, AsksLease, HasLease, InAsk, InRequest, InNotOwner, SentByPlace, SentByRange, InBounce, IsHeld, IsInHand, InAnswer, Ends}
+use Rattle.world_laws.specs.Places.{CallPlace, Idle, AsksLease, HasLease, InAsk, InRequest, InNotOwner, SentByPlace, SentByRange, InBounce, IsHeld, IsInHand, Parked, Waits, InAnswer, Ends}
 use Rattle.world_laws.specs.Callers.{only_if, is_in_stream, frame_at}
 use Rattle.rule_laws.proofs.Answers.{IsOnly, only-one}
 
@@ -89,6 +89,8 @@ module _ (asked : Asked) (p to sender ticket pid : ℕ) (call : Call) (fs : List
   ask-of Idle h = absurd (none-is-not _ fs h)
   ask-of (IsHeld name) h = absurd (none-is-not _ fs h)
   ask-of IsInHand h = absurd (none-is-not _ fs h)
+  ask-of Parked h = absurd (none-is-not _ fs h)
+  ask-of (Waits name) h = absurd (none-is-not _ fs h)
   ask-of Ends h = absurd (none-is-not _ fs h)
   ask-of (AsksLease kind) h = absurd (kinds-differ _ _ _ fs (λ e. cc) h)
   ask-of (HasLease kind first) h = absurd (kinds-differ _ _ _ fs (λ e. cc) h)
@@ -138,6 +140,8 @@ module _ (asked : Asked) (p to sender ticket pid : ℕ) (call : Call) (fs : List
   request-of Idle h = absurd (none-is-not _ fs h)
   request-of (IsHeld name) h = absurd (none-is-not _ fs h)
   request-of IsInHand h = absurd (none-is-not _ fs h)
+  request-of Parked h = absurd (none-is-not _ fs h)
+  request-of (Waits name) h = absurd (none-is-not _ fs h)
   request-of Ends h = absurd (none-is-not _ fs h)
   request-of (AsksLease kind) h = absurd (kinds-differ _ _ _ fs (λ e. cc) h)
   request-of (HasLease kind first) h = absurd (kinds-differ _ _ _ fs (λ e. cc) h)
@@ -184,6 +188,8 @@ module _ (asked : Asked) (p to sender : ℕ) (it : Asked) (fs : List Frame) wher
   forward-of Idle h = absurd (none-is-not _ fs h)
   forward-of (IsHeld name) h = absurd (none-is-not _ fs h)
   forward-of IsInHand h = absurd (none-is-not _ fs h)
+  forward-of Parked h = absurd (none-is-not _ fs h)
+  forward-of (Waits name) h = absurd (none-is-not _ fs h)
   forward-of Ends h = absurd (none-is-not _ fs h)
   forward-of (AsksLease kind) h = absurd (kinds-differ _ _ _ fs (λ e. cc) h)
   forward-of (HasLease kind first) h = absurd (kinds-differ _ _ _ fs (λ e. cc) h)
@@ -220,6 +226,8 @@ module _ (asked : Asked) (p to sender : ℕ) (it : Asked) (fs : List Frame) wher
   bounce-of Idle h = absurd (none-is-not _ fs h)
   bounce-of (IsHeld name) h = absurd (none-is-not _ fs h)
   bounce-of IsInHand h = absurd (none-is-not _ fs h)
+  bounce-of Parked h = absurd (none-is-not _ fs h)
+  bounce-of (Waits name) h = absurd (none-is-not _ fs h)
   bounce-of Ends h = absurd (none-is-not _ fs h)
   bounce-of (AsksLease kind) h = absurd (kinds-differ _ _ _ fs (λ e. cc) h)
   bounce-of (HasLease kind first) h = absurd (kinds-differ _ _ _ fs (λ e. cc) h)
@@ -257,6 +265,8 @@ module _ (asked : Asked) (p to sender ticket : ℕ) (fs : List Frame) where
   not-owner-of Idle h = absurd (none-is-not _ fs h)
   not-owner-of (IsHeld name) h = absurd (none-is-not _ fs h)
   not-owner-of IsInHand h = absurd (none-is-not _ fs h)
+  not-owner-of Parked h = absurd (none-is-not _ fs h)
+  not-owner-of (Waits name) h = absurd (none-is-not _ fs h)
   not-owner-of Ends h = absurd (none-is-not _ fs h)
   not-owner-of (AsksLease kind) h = absurd (kinds-differ _ _ _ fs (λ e. cc) h)
   not-owner-of (HasLease kind first) h = absurd (kinds-differ _ _ _ fs (λ e. cc) h)
@@ -295,6 +305,8 @@ module _ (asked : Asked) (p to sender : ℕ) (kind : Kind) (first : ℕ) (fs : L
   lease-of-call Idle h = absurd (none-is-not _ fs h)
   lease-of-call (IsHeld name) h = absurd (none-is-not _ fs h)
   lease-of-call IsInHand h = absurd (none-is-not _ fs h)
+  lease-of-call Parked h = absurd (none-is-not _ fs h)
+  lease-of-call (Waits name) h = absurd (none-is-not _ fs h)
   lease-of-call Ends h = absurd (none-is-not _ fs h)
   lease-of-call (AsksLease other) h = absurd (kinds-differ _ _ _ fs (λ e. cc) h)
   lease-of-call InAsk h = absurd (kinds-differ _ _ _ fs (λ e. cc) h)

@@ -1,5 +1,6 @@
 -- A node takes the deed of a queue or set that the leader sends it.
-use Rattle.std.proofs.Common.{◌≡◌, ◌≢◌, ◌⊎◌, ℕ, ◌≤◌, Bool, true, false, ◌&&◌, ◌||◌, not, cond, if◌then◌else◌, List, [], ◌∷◌, ◌++◌, filter, flat_map, nat_eq, Some, None, is_some, option_map, refl, ap, sym, subst, ◌∙◌, inl, inr, arith}
+use Rattle.std.proofs.Common.{◌≡◌, ◌≢◌, ◌⊎◌, ℕ, ◌≤◌, Bool, true, false, ◌&&◌, ◌||◌, not, cond, if◌then◌else◌, List, [], ◌∷◌, ◌++◌, filter, flat_map, nat_eq, Some, None, is_some, option_and_then, refl, ap, sym, subst, ◌∙◌, inl, inr, arith}
+use Rattle.std.specs.List.{AllByRecursion, list_all}
 use Rattle.std.proofs.lemmas.Bool.{cases_eq, eqb-true, eq-eqb, ne_eqb, false≢true}
 use Rattle.pico_base.specs.declared.numbers.Name.{Name}
 use Rattle.pico_base.specs.declared.numbers.Name.TheVariants.{Proc}
@@ -11,11 +12,12 @@ use Rattle.rpc_frame.specs.declared.frame.Frame.TheVariants as frames
 use Rattle.node_model.specs.Kinds.{is_object, kind_of, number_of, get_named, put_named}
 use Rattle.node_model.specs.Directory.{place_of, maker, stays, held_for, is_parcel_with}
 use Rattle.node_model.specs.Leases.{leases_hold}
-use Rattle.node_model.specs.Bodies.{Body}
+use Rattle.node_model.specs.Bodies.{Body, waiters_of}
 use Rattle.node_model.specs.Spelling.{pack, read_deed}
-use Rattle.world_model.specs.Node.{Node, Stage, Unborn, Living, Leaving, Left, Over, is_born, is_leader, is_unborn, holds as holds_deed}
-use Rattle.world_model.specs.Step.{Step}
-use Rattle.world_model.specs.Moves.{take_grant, receive_deed}
+use Rattle.waiting_model.specs.declared.callers.Waiting.{Waiting}
+use Rattle.world_model.specs.Node.{Node, Stage, Unborn, Living, Leaving, Left, Over, is_born, is_leader, is_node, is_unborn, holds as holds_deed}
+use Rattle.world_model.specs.Step.{Step, step_to}
+use Rattle.world_model.specs.Moves.{keep, receive_deed, take_grant}
 use Rattle.world_model.specs.Census.{brings}
 use Rattle.world_model.specs.World.{World, world_after}
 use Rattle.world_laws.specs.Places.{DeedPlace, Unmade, InTable, InCheckpoint, InGrant, InGiveBack, InLeft, InKept, InHand, InExitTo, Beside, deed_in}
@@ -25,6 +27,7 @@ use Rattle.world_laws.specs.Plays.{steps_if, Has, Lacks, PlayStep, Comes, plays,
 use Rattle.world_laws.specs.Names.{NameSight, name_sight, NameHolds, held_at, held_as, comes_to, may_be_at, is_stream_of, is_kept_for, is_hand_place, node_in, IsBringer, IsItemWith, IsCheckpointOf, IsLeftOf, IsExitOf, OneIf, PlaysTo, belief_of, range_steps_of, forker, is_maker}
 use Rattle.world_laws.specs.Ranges.{kind_sight}
 use Rattle.world_laws.specs.Families.{NodeHolds}
+use Rattle.world_laws.specs.Cancels.{Nothing}
 use Rattle.world_laws.specs.Invariant.{Holds, MayBe}
 use Rattle.world_laws.proofs.Named.{name-cases, same-name, other-name, get-put-same-name, get-put-other-name}
 use Rattle.world_laws.proofs.Stays.{IsMore, SameName, name-stays}
@@ -182,6 +185,8 @@ module _ (script : Script) (pids : ℕ → ℕ) (born : ℕ → Bool) (name : Na
   pub name-arrived : NameHolds script pids born name (arrived x p rest)
   name-arrived =
       record {
+        parts = h.parts;
+        callers = h.callers;
         made = (λ e. absurd (not-unmade e), λ u. absurd (false≢true (sym u ∙ is-used)));
         place_fits = refl;
         tables = λ q. refl;
@@ -216,11 +221,17 @@ still-born-stage Leaving h = refl
 still-born-stage Left h = refl
 still-born-stage Over h = refl
 
+-- those who wait there have nodes of the script
+pub all-nodes : (script : Script) (ws : List Waiting) → AllByRecursion (λ w. is_node script w.caller ≡ true) ws
+    → list_all (λ w. is_node script w.caller) ws ≡ true
+all-nodes script [] all = refl
+all-nodes script (w ∷ ws) all = rw (all.0, all-nodes script ws all.1) refl
+
 or-both : (a b : Bool) → (a || b) ≡ false → (a ≡ false) × (b ≡ false)
 or-both true b h = absurd (false≢true (sym h))
 or-both false b h = (refl, h)
 
-module _ (script : Script) (w : World) (b : Beside) (holds : Holds script w [] b) (reads : DeedsAreRead b.kernel)
+module _ (script : Script) (w : World) (b : Beside) (holds : Holds script w [] b) (reads : DeedsAreRead b.kernel b.body)
     (p : ℕ) (packed : PackedDeed) (rest : List Frame) (h : Heads script w p 1 (frames.Grant packed) rest) where
   abbrev name : Name
   name = packed.name
@@ -257,15 +268,15 @@ module _ (script : Script) (w : World) (b : Beside) (holds : Holds script w [] b
   object : is_object name ≡ true
   object = sym (ap (may_be_at (is_object name)) is-granted.deed_is) ∙ known.place_fits
 
-  plays-first : x.steps p ≡ Comes ∷ plays b.call name rest
+  plays-first : x.steps p ≡ Comes ∷ plays x.used b.call name rest
   plays-first =
-      ap (λ fs. plays b.call name fs) (head-is script w p 1 (frames.Grant packed) rest h)
-      ∙ ap (λ t. steps_if t Comes ++ plays b.call name rest) (same-name name name refl)
+      ap (λ fs. plays x.used b.call name fs) (head-is script w p 1 (frames.Grant packed) rest h)
+      ∙ ap (λ t. steps_if t Comes ++ plays x.used b.call name rest) (same-name name name refl)
 
   begins-here : x.begins p ≡ Lacks
   begins-here =
       let old : PlaysTo (x.begins p) (x.steps p) (is_there p (belief_of x)) = known.plays p low-node
-      in let come = play-comes (x.begins p) old.last (plays b.call name rest)
+      in let come = play-comes (x.begins p) old.last (plays x.used b.call name rest)
       (ap (λ ss. play (x.begins p) ss) (sym plays-first) ∙ old.plays)
       in come.0
 
@@ -285,7 +296,8 @@ module _ (script : Script) (w : World) (b : Beside) (holds : Holds script w [] b
 
   used : x.used ≡ true
   used =
-      is-used script b.pids (is_born_in w) name x known p other is-granted.deed_is (plays b.call name rest) begins-here
+      is-used script b.pids (is_born_in w) name x known p other is-granted.deed_is
+      (plays x.used b.call name rest) begins-here
       plays-first
 
   not-leased : leases_hold n.leases name ≡ false
@@ -294,20 +306,21 @@ module _ (script : Script) (w : World) (b : Beside) (holds : Holds script w [] b
       (number_of name) p h.low used
 
   abbrev after : Step
-  after = receive_deed n name x.body
+  after = step_to (keep n name x.body)
 
   all-true : (leads born is_object here leased : Bool) → leads ≡ false → born ≡ true → is_object ≡ true
       → here ≡ false → leased ≡ false
       → ((not leads && (born && true)) && (is_object && (not here && not leased))) ≡ true
   all-true leads born is_object here leased a c d e f = rw (a, c, d, e, f) refl
 
-  rule : take_grant n 1 packed ≡ Some after
+  rule : take_grant script n 1 packed ≡ Some after
   rule =
-      ap (λ t. if t then option_map (receive_deed n name) (read_deed packed) else None)
+      ap (λ t. if t then option_and_then (receive_deed script n name) (read_deed packed) else None)
       (all-true (is_leader n) (is_born n) (is_object name) (holds_deed n name) (leases_hold n.leases name)
       (ne_eqb n.number 1 (λ e. other (sym node-holds.number ∙ e))) (still-born-stage n.stage may.1) object not-here
       not-leased)
-      ∙ ap (option_map (receive_deed n name)) (ap read_deed is-granted.packed_is ∙ reads name used)
+      ∙ ap (option_and_then (receive_deed script n name)) (ap read_deed is-granted.packed_is ∙ reads name used)
+      ∙ ap (λ t. if t then Some after else None) (all-nodes script (waiters_of x.body) known.callers)
 
   -- what it changes
 
@@ -344,6 +357,8 @@ module _ (script : Script) (w : World) (b : Beside) (holds : Holds script w [] b
         no_lease_sent = λ kind. tt;
         of_no_call = λ y. (refl, tt);
         sent_of_no_call = λ y. tt;
+        no_cancel_taken = λ y. (refl, tt);
+        no_cancel_sent = λ y. tt;
         may_be_sent = tt;
         to_others = tt;
       }
@@ -391,28 +406,29 @@ module _ (script : Script) (w : World) (b : Beside) (holds : Holds script w [] b
       ]
 
   abbrev rest-steps : List PlayStep
-  rest-steps = plays b.call name (changes.left p 1)
+  rest-steps = plays x.used b.call name (changes.left p 1)
 
   steps-were : x.steps p ≡ Comes ∷ rest-steps
   steps-were =
-      rest-stays script p 1 w next after.node (frames.Grant packed) [] [] changes (λ t s fs. plays b.call name fs)
+      rest-stays script p 1 w next after.node (frames.Grant packed) [] [] changes
+      (λ t s fs. plays x.used b.call name fs)
       (λ t s. flat_map-is-list-map _)
       ∙ ap (λ t. (steps_if t Comes ++ []) ++ rest-steps) (same-name name name refl)
 
-  steps-now : (q : ℕ) → (if nat_eq q p then rest-steps else x.steps q) ≡ plays b.call name (frames_to next q 1)
+  steps-now : (q : ℕ) → (if nat_eq q p then rest-steps else x.steps q) ≡ plays x.used b.call name (frames_to next q 1)
   steps-now q =
       elim (cases_eq q p) [
         | inl e ↦
             ap (λ t. if t then rest-steps else x.steps q) (eq-eqb q p e)
-            ∙ subst (λ y. rest-steps ≡ plays b.call name (frames_to next y 1)) (sym e)
-            (sym (only-stayed script p w next after.node takes [] [] changes (λ t s fs. plays b.call name fs)
+            ∙ subst (λ y. rest-steps ≡ plays x.used b.call name (frames_to next y 1)) (sym e)
+            (sym (only-stayed script p w next after.node takes [] [] changes (λ t s fs. plays x.used b.call name fs)
             (λ t s. flat_map-is-list-map _) tt p 1))
         | inr d ↦
             ap (λ t. if t then rest-steps else x.steps q) (ne_eqb q p d)
-            ∙ sym (only-stayed script p w next after.node takes [] [] changes (λ t s fs. plays b.call name fs)
+            ∙ sym (only-stayed script p w next after.node takes [] [] changes (λ t s fs. plays x.used b.call name fs)
             (λ t s. flat_map-is-list-map _) tt q 1
             ∙ others-stay script p 1 w next after.node (frames.Grant packed) [] [] changes
-            (λ t s fs. plays b.call name fs) (λ t s. flat_map-is-list-map _) q 1 (inl d))
+            (λ t s fs. plays x.used b.call name fs) (λ t s. flat_map-is-list-map _) q 1 (inl d))
       ]
 
   -- the deed was in this frame alone
@@ -461,6 +477,7 @@ module _ (script : Script) (w : World) (b : Beside) (holds : Holds script w [] b
         maker = ap (λ y. maker y name) (sym same-there);
         stays = λ q. ap (λ y. stays y q) (sym same-there);
         used = refl;
+        part = refl;
         body = refl;
         deed = sym (ap (λ t. if t then InTable p else b.deed name) (same-name name name refl));
         held = held-now;
@@ -472,7 +489,7 @@ module _ (script : Script) (w : World) (b : Beside) (holds : Holds script w [] b
         begins = begins-now;
         steps = steps-now;
         ranges = λ q. sym (made-same script p w next after.node takes [] [] changes
-            (λ t s fs. flat_map (range_steps_of b.call name) fs) (λ t s. flat_map-is-list-map _) (refl, tt) tt q
+            (λ t s fs. flat_map (range_steps_of x.used b.call name) fs) (λ t s. flat_map-is-list-map _) (refl, tt) tt q
             1);
         placed = λ q. sym (made-same script p w next after.node takes [] [] changes
             (λ t s fs. placed_in name fs) (λ t s. flat_map-is-list-map _) (refl, tt) tt 1 q);
@@ -487,13 +504,14 @@ module _ (script : Script) (w : World) (b : Beside) (holds : Holds script w [] b
       record {
         directory = same-directory (directory_of w) (directory_of next) same-there m;
         used_is = refl;
+        part_is = refl;
         body_is = refl;
         deed_is = ap (λ t. if t then InTable p else b.deed m) (other-name name m (λ e. d (sym e)));
         held_is = get-put-other-name n.deeds name x.body m d;
         begins_is = λ holds_it comes. refl;
         hand_is = refl;
-        steps_are = λ q. refl;
-        ranges_are = λ q. refl;
+        steps_are = λ used q. refl;
+        ranges_are = λ used q. refl;
       }
 
   names : (m : Name) → NameHolds script b.pids (is_born_in next) m (name_sight script next [] moved m)
@@ -512,7 +530,8 @@ module _ (script : Script) (w : World) (b : Beside) (holds : Holds script w [] b
     where
       more : IsMore (is_born_in w) (is_born_in next)
       more =
-          quiet-born script w next [] b (deed_in b.deed name (InTable p)) p after.node takes [] h.low h.high holds
+          quiet-born script w next [] Nothing b (deed_in b.deed name (InTable p))
+          p after.node takes [] h.low h.high holds
           changes quiet
 
   -- The deed is in this node's table now.
@@ -520,7 +539,8 @@ module _ (script : Script) (w : World) (b : Beside) (holds : Holds script w [] b
   grant-keeps =
       record {
         next = next;
-        is_step = take-steps script w p 1 (frames.Grant packed) rest after holds.shape h rule;
-        holds = quiet-keeps script w next [] b (deed_in b.deed name (InTable p)) p after.node takes [] h.low h.high
+        is_step = take-steps script w p 1 (frames.Grant packed) rest after holds.shape h rule refl;
+        holds = quiet-keeps script w next [] Nothing b (deed_in b.deed name (InTable p))
+            p after.node takes [] h.low h.high
             holds changes quiet names;
       }

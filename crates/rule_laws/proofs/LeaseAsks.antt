@@ -19,20 +19,27 @@ use Rattle.node_model.specs.declared.held.Held.TheVariants.{Request}
 use Rattle.node_model.specs.Kinds.{for_kind, kind_of, number_of, is_same_kind, get_named}
 use Rattle.node_model.specs.Directory.{Directory, place_of, held_for, maker, maker_in, stays, has_more, upcoming, with_range, is_parcel_with}
 use Rattle.node_model.specs.Leases.{lease_of}
+use Rattle.waiting_model.specs.Marks.{Alive}
+use Rattle.node_model.specs.Serving.{waiting_as}
 use Rattle.world_model.specs.Node.{Node, Stage, Unborn, Living, Leaving, Left, Over, is_leader}
 use Rattle.world_model.specs.Step.{Step, step_to, with_directory, send}
 use Rattle.world_model.specs.Ranges.{take_lease_ask}
 use Rattle.world_model.specs.Census.{brings}
 use Rattle.world_model.specs.World.{World, node_count, world_after}
-use Rattle.world_laws.specs.Places.{CallPlace, Idle, AsksLease, HasLease, InAsk, InRequest, InNotOwner, SentByPlace, SentByRange, InBounce, IsHeld, IsInHand, InAnswer, Ends, Beside, call_in}
+use Rattle.world_laws.specs.Places.{CallPlace, Idle, AsksLease, HasLease, InAsk, InRequest, InNotOwner, SentByPlace, SentByRange, InBounce, IsHeld, IsInHand, Parked, Waits, InAnswer, Ends, Beside, call_in}
 use Rattle.world_laws.specs.Sights.{node_of, frames_to, directory_of, stage_of, is_born_in, is_born_stage}
 use Rattle.world_laws.specs.Plays.{plays, begin, believed, is_there, is_checkpoint_of, has_any, placed_in, news}
 use Rattle.world_laws.specs.Names.{NameSight, name_sight, NameHolds, IsTold, PlaysTo, belief_of, maker_tells, held_at, comes_to, is_maker, range_steps_of, range_steps_if, leases_name, leases_first, RangeStep, IsLeased, IsSentThere, forker}
-use Rattle.world_laws.specs.Callers.{CallSight, call_sight, CallHolds, HasCall, HasCallOrNone, IsJustThere, IsToBeMade, IsSoFar, IsBetween, asked_of, only_if, is_in_stream, frame_at, is_held_at, is_in_hand, is_about, is_item_about, is_at_work, is_end_place, may_be_in, lease_is_over}
+use Rattle.world_laws.specs.Callers.{CallSight, call_sight, CallHolds, HasCall, HasCallOrNone, IsJustThere, IsToBeMade, IsSoFar, IsBetween, asked_of, only_if, is_in_stream, frame_at, is_held_at, is_in_hand, is_waiting_at, is_about, is_item_about, is_at_work, is_end_place, may_be_in, lease_is_over}
+use Rattle.world_laws.specs.Cancels.{CancelHolds, Nothing, cancel_sight, is_held_cancel_of}
+use Rattle.world_laws.specs.Wholes.{HasMarks, under_way_at}
 use Rattle.world_laws.specs.Ranges.{kind_sight, KindHolds, has_lease, leases_on_way, FewRanges, lease_in, first_if, one_for, is_given}
 use Rattle.world_laws.specs.Families.{NodeHolds}
 use Rattle.world_laws.specs.Invariant.{Holds, IsLeading}
 use Rattle.world_laws.proofs.Stays.{IsMore, SameCall, SameName, SameKind, call-stays, name-stays, kind-stays}
+use Rattle.world_laws.proofs.Cancels.{still-owed}
+use Rattle.world_laws.proofs.GoingOn.{cancel-goes-on}
+use Rattle.world_laws.proofs.Pairs.{goes_on}
 use Rattle.world_laws.proofs.Changes.{Changes, frames_if, sent, filter-is-list-map, flat_map-is-list-map, made-after, made-same, stayed, only-stayed, read-same}
 use Rattle.world_laws.proofs.Sends.{frame_if}
 use Rattle.world_laws.proofs.LeftAlone.{LeavesName, DirectoryLeaves, name-left-alone, kind-left-alone, few-still}
@@ -41,7 +48,9 @@ use Rattle.world_laws.proofs.Heads.{head-is, head-from-another, rest-stays, othe
 use Rattle.world_laws.proofs.Numbers.{maker-in-range}
 use Rattle.world_laws.proofs.NewRanges.{unmade-next, range-of-next, maker-elsewhere, leased, kind-leased, no-lease-about, sum-more}
 use Rattle.rule_laws.proofs.Nodes.{node-with-directory}
-use Rattle.rule_laws.proofs.CallMoves.{IsCallMove, SameButCall, call-move-keeps, move-born, steps-still, ranges-still}
+use Rattle.world_laws.proofs.Wholes.{LeavesWhole, marks-go-on, marks-of-others, whole-left-alone}
+use Rattle.rule_laws.proofs.Withdrawals.{old-still}
+use Rattle.rule_laws.proofs.CallMoves.{IsCallMove, SameButCall, cancel-if-same, call-move-keeps, move-born, steps-still, ranges-still}
 use Rattle.rule_laws.proofs.Answers.{IsOnly, only-one, Found, find}
 
 -- ---- what a LeaseAsk says of the call
@@ -77,6 +86,8 @@ lease-ask-of (AsksLease other) asked p to sender kind fs h =
 lease-ask-of Idle asked p to sender kind fs h = absurd (none-is-not _ fs h)
 lease-ask-of (IsHeld name) asked p to sender kind fs h = absurd (none-is-not _ fs h)
 lease-ask-of IsInHand asked p to sender kind fs h = absurd (none-is-not _ fs h)
+lease-ask-of Parked asked p to sender kind fs h = absurd (none-is-not _ fs h)
+lease-ask-of (Waits name) asked p to sender kind fs h = absurd (none-is-not _ fs h)
 lease-ask-of Ends asked p to sender kind fs h = absurd (none-is-not _ fs h)
 lease-ask-of (InAnswer node answer) asked p to sender kind fs h = absurd (no-lease-ask _ _ kind fs refl h)
 lease-ask-of (HasLease other first) asked p to sender kind fs h = absurd (no-lease-ask _ _ kind fs refl h)
@@ -113,12 +124,15 @@ call-with-lease script p born x call kind first holds is has place =
                   ∙ ap (λ y. only_if (is_held_at y name) (Request (asked_of x call))) place;
               in_hand = there.in_hand
                   ∙ ap (λ y. only_if (is_in_hand y) (Request (asked_of x call))) place;
+              waiting = λ name. there.waiting name
+                  ∙ ap (λ y. only_if (is_waiting_at y name) (waiting_as (asked_of x call))) place;
             };
             home = sym (ap (λ y. may_be_in y (home_of x.pid call) call) place) ∙ has.home;
             used_up = subst (λ y. lease_is_over y x.leases) place has.used_up;
             between = subst (λ y. IsBetween p born y) place has.between;
             so_far = so-far;
             at_work = has.at_work;
+            started = has.started;
             tickets = has.tickets;
             try_left = has.try_left;
           });
@@ -202,6 +216,8 @@ module _ (script : Script) (pids : ℕ → ℕ) (born : ℕ → Bool) (name : Na
   pub name-given-out : NameHolds script pids born name (given-out x node)
   name-given-out =
       record {
+        parts = h.parts;
+        callers = h.callers;
         made = h.made;
         place_fits = h.place_fits;
         tables = h.tables;
@@ -415,7 +431,33 @@ module _ (script : Script) (w : World) (b : Beside) (holds : Holds script w [] b
         leads = leading-with-range d kind q holds.leading;
       })
 
-  move : IsCallMove script w next [] [] b b.deed calls-now 1 after.node takes after.sends q
+  under-way-same : (y : ℕ) → under_way_at next y ≡ under_way_at w y
+  under-way-same y =
+      read-same script 1 w next after.node takes after.sends [] changes (λ (m : Node). m.caller.under_way) refl y
+
+  own-marks : (a : Alive) → HasMarks (b.call q) (under_way_at w q) a → HasMarks (calls-now q) (under_way_at next q) a
+  own-marks a marks =
+      subst (λ place. HasMarks place (under_way_at next q) a)
+      (sym (ap (λ t. if t then HasLease kind up else b.call q) (eq-eqb q q refl)))
+      (subst (λ o. HasMarks (HasLease kind up) o a) (sym (under-way-same q))
+      (marks-go-on (AsksLease kind) (HasLease kind up) (under_way_at w q) a refl refl
+      (subst (λ place. HasMarks place (under_way_at w q) a) is-ask.place_is marks)))
+
+  leaves-whole : LeavesWhole w next b moved
+  leaves-whole =
+      record {
+        journal_is = changes.journal ∙ append-nil w.journal;
+        lines_are = refl;
+        kernel_is = refl;
+        whole_is = refl;
+        pids_are = λ y. refl;
+        bodies_are = λ name. refl;
+        marks_still = λ y a lives. marks-of-others w next b.call calls-now q
+            (λ y e. ap (λ t. if t then HasLease kind up else b.call y) (ne_eqb q y (λ g. e (sym g))))
+            (λ y e. under-way-same y) y a (λ e. own-marks a);
+      }
+
+  move : IsCallMove script w next [] [] Nothing Nothing b moved 1 after.node takes after.sends q
   move =
       record {
         stage = refl;
@@ -430,18 +472,25 @@ module _ (script : Script) (w : World) (b : Beside) (holds : Holds script w [] b
         calls = λ y e. ap (λ t. if t then HasLease kind up else b.call y) (ne_eqb q y (λ g. e (sym g)));
         hand_of_others = λ y e. refl;
         parcels_at_hand = λ parcel e. e;
+        whole = whole-left-alone w next b moved Nothing leaves-whole;
+        waiters_of_others = λ y e name. refl;
+        cancel_of_others = λ y e. refl;
+        owed_of_others = λ y e same h. cancel-if-same y Nothing _ _ refl same h;
         plain_taken = (refl, tt);
         plain_sent = (refl, tt);
         no_birth_taken = (refl, tt);
         no_birth_sent = (refl, tt);
         of_no_other = λ y e. (ne_eqb q y (λ g. e (sym g)), tt);
         sent_of_no_other = λ y e. (ne_eqb q y (λ g. e (sym g)), tt);
+        no_cancel_taken = λ y e. (refl, tt);
+        no_cancel_sent = λ y e. (refl, tt);
         may_be_sent = (refl, tt);
         to_others = (other, tt);
       }
 
   more : IsMore (is_born_in w) (is_born_in next)
-  more = move-born script w next [] [] b b.deed calls-now 1 after.node takes after.sends q h.low h.high holds changes
+  more = move-born script w next [] [] Nothing Nothing b moved 1 after.node takes after.sends [] q h.low h.high holds
+      changes
       move
 
   -- the call
@@ -471,12 +520,40 @@ module _ (script : Script) (w : World) (b : Beside) (holds : Holds script w [] b
             ∙ sent-lease to sender (nat_eq to q) (nat_eq sender 1) refl);
         held = λ name. sym (ap (λ y. filter (is_item_about q) (held_for y name)) directory-now);
         hand = refl;
+        waiters = λ name. refl;
       }
 
   call-now : CallHolds script q (is_born_in next) (call_sight next [] moved q)
   call-now =
       call-stays script q (is_born_in w) (is_born_in next) _ _ more sight-now
       (call-with-lease script q (is_born_in w) x call kind up call-holds found.is has is-ask.place_is)
+
+  -- it may not wait, so it has no withdrawal
+  cancel-now : CancelHolds q Nothing (cancel_sight next [] moved q)
+  cancel-now =
+      let h_cancel : CancelHolds q Nothing (cancel_sight w [] b q) = holds.cancels q h.low_from h.high_from
+      in let asker : NodeHolds script b.pids (is_born_in w) q (node_of w q) = holds.nodes q h.low_from h.high_from
+      in let same : node_of next q ≡ node_of w q = changes.others q other
+      in cancel-goes-on script q (is_born_in w) (is_born_in next) Nothing Nothing w next [] [] b moved
+      (record {
+        number_is = asker.number;
+        number = sym (ap (λ (m : Node). m.number) same);
+        caller = sym (ap (λ (m : Node). m.caller) same);
+        old = old-still script 1 w next after.node takes after.sends [] changes [] [] b moved q
+            (sym (ap (λ (m : Node). m.pid) same))
+            (subst (λ (m : Node). (node_of w q).caller.ticket ≤ m.caller.ticket) (sym same) (omega arith))
+            (λ name. ap (λ (z : Directory). filter (is_held_cancel_of q) (held_for z name)) directory-now) refl
+            (refl, tt) (refl, tt);
+        cancel = refl;
+        goes = ap (λ place. goes_on place (calls-now q)) is-ask.place_is
+            ∙ ap (λ t. goes_on (AsksLease kind) (if t then HasLease kind up else b.call q)) (eq-eqb q q refl);
+        somewhere = λ lands name l. not-sent l.node (sym is-ask.place_is ∙ l.is);
+      })
+      (still-owed q Nothing (cancel_sight w [] b q) (cancel_sight next [] moved q) refl (sym (under-way-same q))
+      h_cancel) call-holds call-now h_cancel
+    where
+      not-sent : (node : ℕ) → AsksLease kind ≡ SentByRange node → ⊥
+      not-sent node e = cc
 
   -- the names
 
@@ -506,16 +583,19 @@ module _ (script : Script) (w : World) (b : Beside) (holds : Holds script w [] b
       record {
         directory = directory-leaves-other m away;
         used_is = refl;
+        part_is = refl;
         body_is = refl;
         deed_is = refl;
         held_is = refl;
         begins_is = λ holds_it comes. refl;
         hand_is = refl;
-        steps_are = λ y. steps-still script w next [] [] b b.deed calls-now 1 after.node takes after.sends q h.low
+        steps_are = λ used y. steps-still script w next [] [] Nothing Nothing b moved 1 after.node takes after.sends []
+            q h.low
             h.high
-            holds changes move y (left-alone y 1) m;
-        ranges_are = λ y. ranges-still script w next [] [] b b.deed calls-now 1 after.node takes after.sends q h.low
-            h.high holds changes move y (left-alone y 1) m;
+            holds changes move used y (left-alone y 1) m;
+        ranges_are = λ used y. ranges-still script w next [] [] Nothing Nothing b moved 1 after.node takes after.sends
+            [] q h.low
+            h.high holds changes move used y (left-alone y 1) m;
       }
 
   abbrev y-of : Name → NameSight
@@ -567,7 +647,8 @@ module _ (script : Script) (w : World) (b : Beside) (holds : Holds script w [] b
       (λ (z : Node). begin z.stage (is_some (get_named z.deeds m)) (comes_to script next m y)) refl y)
 
   leased-if : (m : Name) → leases_name m kind up ≡ true → (t : Bool)
-      → flat_map (range_steps_of calls-now m) (frame_if t lease ++ []) ≡ range_steps_if t IsLeased
+      → flat_map (range_steps_of (is_used_name b.kernel m) calls-now m) (frame_if t lease ++ [])
+      ≡ range_steps_if t IsLeased
   leased-if m inside true = ap (λ u. range_steps_if u IsLeased ++ []) inside
   leased-if m inside false = refl
 
@@ -579,6 +660,7 @@ module _ (script : Script) (w : World) (b : Beside) (holds : Holds script w [] b
         maker = made-now m inside;
         stays = λ y. sym (ap (λ z. stays z y) directory-now);
         used = refl;
+        part = refl;
         body = refl;
         deed = refl;
         held = λ y. sym (read-same script 1 w next after.node takes after.sends [] changes
@@ -589,19 +671,25 @@ module _ (script : Script) (w : World) (b : Beside) (holds : Holds script w [] b
         hand = refl;
         begins = begins-now m;
         steps = λ y. sym (only-stayed script 1 w next after.node takes after.sends [] changes
-            (λ t s fs. plays calls-now m fs) (λ t s. flat_map-is-list-map _) (refl, tt) y 1
-            ∙ steps-still script w next [] [] b b.deed calls-now 1 after.node takes after.sends q h.low h.high holds
-            changes move y (left-alone y 1) m
-            ∙ stayed script 1 w next after.node takes after.sends [] changes (λ t s fs. plays b.call m fs)
+            (λ t s fs. plays (is_used_name b.kernel m) calls-now m fs) (λ t s. flat_map-is-list-map _) (refl, tt) y 1
+            ∙ steps-still script w next [] [] Nothing Nothing b moved 1 after.node takes after.sends [] q h.low h.high
+            holds
+            changes move (is_used_name b.kernel m) y (left-alone y 1) m
+            ∙ stayed script 1 w next after.node takes after.sends [] changes
+            (λ t s fs. plays (is_used_name b.kernel m) b.call m fs)
             (λ t s. flat_map-is-list-map _) (refl, tt) y 1);
         ranges = λ y. sym (made-after script 1 w next after.node takes after.sends [] changes
-            (λ t s fs. flat_map (range_steps_of calls-now m) fs) (λ t s. flat_map-is-list-map _) y 1
-            ∙ ap (λ ss. ss ++ flat_map (range_steps_of calls-now m) (sent 1 after.sends y 1))
-            (ranges-still script w next [] [] b b.deed calls-now 1 after.node takes after.sends q h.low h.high holds
-            changes move y (left-alone y 1) m
+            (λ t s fs. flat_map (range_steps_of (is_used_name b.kernel m) calls-now m) fs)
+            (λ t s. flat_map-is-list-map _) y 1
+            ∙ ap (λ ss. ss ++ flat_map (range_steps_of (is_used_name b.kernel m) calls-now m) (sent 1 after.sends y 1))
+            (ranges-still script w next [] [] Nothing Nothing b moved 1 after.node takes after.sends [] q h.low h.high
+            holds
+            changes move (is_used_name b.kernel m) y (left-alone y 1) m
             ∙ stayed script 1 w next after.node takes after.sends [] changes
-            (λ t s fs. flat_map (range_steps_of b.call m) fs) (λ t s. flat_map-is-list-map _) (refl, tt) y 1)
-            ∙ ap (λ ss. flat_map (range_steps_of b.call m) (frames_to w y 1) ++ ss) (leased-if m inside (nat_eq y q)));
+            (λ t s fs. flat_map (range_steps_of (is_used_name b.kernel m) b.call m) fs)
+            (λ t s. flat_map-is-list-map _) (refl, tt) y 1)
+            ∙ ap (λ ss. flat_map (range_steps_of (is_used_name b.kernel m) b.call m) (frames_to w y 1)
+            ++ ss) (leased-if m inside (nat_eq y q)));
         placed = λ y. sym (made-same script 1 w next after.node takes after.sends [] changes
             (λ t s fs. placed_in m fs) (λ t s. flat_map-is-list-map _) (refl, tt) (refl, tt) 1 y);
         news = λ y. ap (λ u. news m (u && is_maker (maker d m) y) (frames_to w 1 y)) (unused m inside)
@@ -733,7 +821,8 @@ module _ (script : Script) (w : World) (b : Beside) (holds : Holds script w [] b
   lease-ask-keeps =
       record {
         next = next;
-        is_step = take-steps script w 1 q frame rest after holds.shape h rule;
-        holds = call-move-keeps script w next [] [] b b.deed calls-now 1 after.node takes after.sends q h.low h.high
-            holds changes move call-now names numbers-now few-now;
+        is_step = take-steps script w 1 q frame rest after holds.shape h rule refl;
+        holds = call-move-keeps script w next [] [] Nothing Nothing b moved 1 after.node takes after.sends [] q h.low
+            h.high
+            holds changes move call-now cancel-now names numbers-now few-now;
       }

@@ -1,3 +1,7 @@
+pub mod Nowhere
+pub mod Waiters
+pub mod Withdrawals
+pub mod CallMoves
 pub mod Quiet
 pub mod Nodes
 pub mod Recalls
@@ -5,7 +9,6 @@ pub mod Places
 pub mod Placings
 pub mod Suggestions
 pub mod Grants
-pub mod CallMoves
 pub mod Answers
 pub mod LeaseAsks
 pub mod Births

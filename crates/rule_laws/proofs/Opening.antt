@@ -1,8 +1,9 @@
 -- The opening world: node 1 is born with process 1, and there is nothing else.
 use Rattle.std.proofs.Common.{◌≡◌, ◌≢◌, ◌⊎◌, ℕ, zero, suc, ◌+◌, ◌-◌, ◌/◌, ◌<◌, ◌≤◌, Bool, true, false, ◌&&◌, ◌||◌, not, if◌then◌else◌, List, [], ◌∷◌, length, map, replicate, slice_get, get_or, filter, flat_map, nat_eq, Contains, Option, Some, None, is_some, unwrap_or, refl, ap, sym, subst, ◌∙◌, inl, inr, arith}
-use Rattle.std.specs.List.{list_any, range_with_len}
+use Rattle.std.specs.List.{AllByRecursion, list_any, range_with_len}
 use Rattle.std.proofs.lemmas.Bool.{cases_eq, cases_lt, ne_eqb, lt-ltb, le-ltb, false≢true}
 use Rattle.std.proofs.lemmas.Option.{slice_get_past}
+use Rattle.pico_base.specs.declared.call.Call.{Call}
 use Rattle.pico_base.specs.declared.numbers.Kind.{Kind}
 use Rattle.pico_base.specs.declared.numbers.Kind.TheVariants as kinds
 use Rattle.pico_base.specs.declared.numbers.Name.{Name}
@@ -19,27 +20,32 @@ use Rattle.number_maps.proofs.LookUps.{get-first, get-later}
 use Rattle.std.proofs.lemmas.List.Elements.{Contains-push_cases}
 use Rattle.kernel_model.specs.Script.{is_exit}
 use Rattle.kernel_model.specs.Row.{Alive, Row, Free, new_row}
-use Rattle.kernel_model.specs.Kernel.{Kernel, Process, opening, living_at}
+use Rattle.kernel_model.specs.Kernel.{Process, opening, living_at}
 use Rattle.kernel_model.specs.Kernel as kernel
 use Rattle.kernel_model.specs.Footprint.{used_of}
 use Rattle.kernel_model.specs.Fitting.{Place, block_place, block_at, opening_places, with_exit}
 use Rattle.entry_laws.specs.Entering.{is_used_name}
+use Rattle.waiting_model.specs.Kernel.{opening as whole_opening, living_at as lives_at}
+use Rattle.waiting_model.specs.Marks.{Alive as Marked, new_alive}
+use Rattle.waiting_laws.proofs.ParkWaits.{opening-alike, opening-sound}
 use Rattle.node_model.specs.declared.held.Held.{Held}
 use Rattle.node_model.specs.declared.held.Held.TheVariants.{Ending}
 use Rattle.node_model.specs.Kinds.{get_named, none_named, is_same_name, number_of, for_kind}
 use Rattle.node_model.specs.Directory.{Directory, Place as NamePlace, At, opening_directory, place_of, maker, maker_in, stays, held_for, items_of, is_parcel_with}
-use Rattle.node_model.specs.Bodies.{Body, Living as LivingBody, body_in}
+use Rattle.node_model.specs.Bodies.{Body, Living as LivingBody, body_in, erase, process_body, whole_in, whole_process}
 use Rattle.node_model.specs.Caller.{lines_of, lines_in}
 use Rattle.node_model.specs.Leases.{leader_leases}
 use Rattle.world_model.specs.Node.{Node, Stage, Unborn, Living, Leaving, Left, Over, unborn_node, first_node, opening_node}
 use Rattle.world_model.specs.Lives.{names_block}
 use Rattle.world_model.specs.Census.{brings}
 use Rattle.world_model.specs.World.{World, opening_world, numbers, node_count, node_at, is_number}
-use Rattle.world_laws.specs.Places.{DeedPlace, Unmade, InTable, Idle, Beside}
+use Rattle.world_laws.specs.Places.{DeedPlace, Unmade, InTable, Idle, NoCancel, Beside}
 use Rattle.world_laws.specs.Sights.{node_of, frames_to, directory_of, stage_of, is_born_in, is_born_stage}
 use Rattle.world_laws.specs.Plays.{told, Has, Lacks, begin, is_there, is_has, is_checkpoint_of, has_any, plays, placed_in, news}
 use Rattle.world_laws.specs.Names.{RangeStep, maker_tells, belief_of, NameSight, name_sight, NameHolds, held_at, held_as, comes_to, range_steps_of, forker, is_maker}
-use Rattle.world_laws.specs.Callers.{CallSight, call_sight, CallHolds, IsNowhere, is_about, is_item_about}
+use Rattle.world_laws.specs.Callers.{CallSight, call_sight, CallHolds, IsNowhere, is_about, is_item_about, is_waiter_of}
+use Rattle.world_laws.specs.Cancels.{CancelHolds, IsCancelFrame, IsCancelItem, Nothing, OfCall, cancel_sight, is_cancel_of, is_held_cancel_of}
+use Rattle.world_laws.specs.Wholes.{HasMarks, HasWhole, under_way_at}
 use Rattle.world_laws.specs.Ways.{way_sight, Way, here, knows_parent, is_leaving_frame, is_recall_all, is_left_frame, IsParcelIn, left, sent, kept, at_hand}
 use Rattle.world_laws.specs.Ranges.{KindSight, kind_sight, KindHolds, IsRestOf, is_given, lease_at, lease_in, FewRanges, leases_on_way, KeysHold}
 use Rattle.world_laws.specs.Families.{NodeHolds, PidsHold, FamilyHolds, ListsChild, checkpoints_to}
@@ -50,6 +56,7 @@ use Rattle.world_laws.proofs.NewRanges.{in-lease-again}
 use Rattle.world_laws.proofs.Stays.{SameName, name-stays, SameCall, call-stays, SameKind, kind-stays}
 use Rattle.kernel_laws.proofs.Lists.{all-at}
 use Rattle.rule_laws.proofs.Births.{first-lines}
+use Rattle.rule_laws.proofs.own.Rebodied.{nobody-waits, nobody-waits-in}
 
 -- ---- what stands beside it
 
@@ -63,11 +70,15 @@ opening_deed name = if is_same_name (Proc 1) name then InTable 1 else Unmade
 abbrev pub opening_beside : Script → Beside
 opening_beside script =
     record {
+      lines = [];
       kernel = opening;
       places = opening_places script;
+      whole = whole_opening;
       pids = opening_pids;
       deed = opening_deed;
       call = λ p. Idle;
+      body = body_in opening;
+      cancel = λ p. NoCancel;
     }
 
 -- ---- the nodes, and no frames
@@ -196,6 +207,7 @@ module _ (script : Script) (r : IsRunnable script) where
         maker = maker opening_directory m;
         stays = stays opening_directory;
         used = is_used_name opening m;
+        part = body_in opening m;
         body = body_in opening m;
         deed = opening_deed m;
         held = held_at w m;
@@ -226,6 +238,7 @@ module _ (script : Script) (r : IsRunnable script) where
         maker = ap (λ d. maker d m) (sym directory-first);
         stays = λ y. ap (λ d. stays d y) (sym directory-first);
         used = refl;
+        part = refl;
         body = refl;
         deed = refl;
         held = λ h. refl;
@@ -234,8 +247,8 @@ module _ (script : Script) (r : IsRunnable script) where
             ∙ ap (filter (is_parcel_with m)) (holds-none (Proc pid)));
         hand = refl;
         begins = λ h. ap (begin (stage_of w h) (is_some (held_at w m h))) (sym (comes-not m h));
-        steps = λ h. ap (λ fs. plays b.call m fs) (sym (no-frames h 1));
-        ranges = λ h. ap (λ fs. flat_map (range_steps_of b.call m) fs) (sym (no-frames h 1));
+        steps = λ h. ap (λ fs. plays (is_used_name opening m) b.call m fs) (sym (no-frames h 1));
+        ranges = λ h. ap (λ fs. flat_map (range_steps_of (is_used_name opening m) b.call m) fs) (sym (no-frames h 1));
         placed = λ q. ap (λ fs. placed_in m fs) (sym (no-frames 1 q));
         news = λ q. ap (λ fs. news m (is_used_name opening m && is_maker (maker (directory_of w) m) q) fs)
             (sym (no-frames 1 q));
@@ -283,6 +296,8 @@ module _ (script : Script) (r : IsRunnable script) where
   name-first : NameHolds script opening_pids (is_born_in w) (Proc 1) (z (Proc 1))
   name-first =
       record {
+        parts = (nobody-waits-in script opening (Proc 1)).parts;
+        callers = (nobody-waits-in script opening (Proc 1)).callers;
         made = (λ e. absurd (not-unmade e), λ e. absurd (false≢true (sym e)));
         place_fits = refl;
         tables = first-held;
@@ -315,6 +330,7 @@ module _ (script : Script) (r : IsRunnable script) where
         maker = maker opening_directory m;
         stays = stays opening_directory;
         used = false;
+        part = body_in opening m;
         body = body_in opening m;
         deed = Unmade;
         held = λ h. None;
@@ -364,6 +380,7 @@ module _ (script : Script) (r : IsRunnable script) where
         maker = same.maker;
         stays = same.stays;
         used = sym (unused m d);
+        part = refl;
         body = refl;
         deed = sym (unmade m d);
         held = λ h. sym (held-no m d h);
@@ -394,6 +411,8 @@ module _ (script : Script) (r : IsRunnable script) where
   name-absent : (m : Name) → NameHolds script opening_pids (is_born_in w) m (absent m)
   name-absent m =
       record {
+        parts = (nobody-waits-in script opening m).parts;
+        callers = (nobody-waits-in script opening m).callers;
         made = (λ e. refl, λ e. refl);
         place_fits = refl;
         tables = λ h. refl;
@@ -445,6 +464,7 @@ module _ (script : Script) (r : IsRunnable script) where
         frames_about = λ to sender. [];
         held = λ name. [];
         hand = [];
+        waiters = λ name. [];
       }
 
   idle-is : (n : Node) (p : ℕ) → node_of w p ≡ n → SameCall (idle n p) (call_sight w [] b p)
@@ -462,11 +482,17 @@ module _ (script : Script) (r : IsRunnable script) where
         held = λ m. sym (ap (λ d. filter (is_item_about p) (held_for d m)) directory-first
             ∙ ap (filter (is_item_about p)) (holds-none m));
         hand = refl;
+        waiters = λ m. sym (ap (filter (is_waiter_of p)) (nobody-waits opening m));
       }
 
   nowhere : (n : Node) (p : ℕ) → IsNowhere (idle n p)
   nowhere n p =
-      record { in_streams = λ to sender. refl; held_for_names = λ m. refl; in_hand = refl }
+      record {
+        in_streams = λ to sender. refl;
+        held_for_names = λ m. refl;
+        in_hand = refl;
+        waiting = λ m. refl;
+      }
 
   call-first : CallHolds script 1 (is_born_in w) (idle first_node 1)
   call-first =
@@ -502,6 +528,73 @@ module _ (script : Script) (r : IsRunnable script) where
             call-stays script p (is_born_in w) (is_born_in w) _ _ (λ y g. g)
             (idle-is (unborn_node p) p (node-else p d)) (call-other p)
       ]
+
+  -- ---- the withdrawals
+
+  none-under-way : (p : ℕ) → under_way_at w p ≡ None
+  none-under-way p =
+      elim (cases_eq p 1) [
+        | inl e ↦ ap (λ y. under_way_at w y) e ∙ ap (λ (x : Node). x.caller.under_way) node-one
+        | inr d ↦ ap (λ (x : Node). x.caller.under_way) (node-else p d)
+      ]
+
+  cancels : (p : ℕ) → CancelHolds p Nothing (cancel_sight w [] b p)
+  cancels p =
+      record {
+        of_call = subst (λ (o : Option Call). OfCall p false (cancel_sight w [] b p) Idle o) (sym (none-under-way p))
+            refl;
+        frames = λ to sender. subst
+            (λ fs. AllByRecursion (IsCancelFrame (cancel_sight w [] b p)) (filter (is_cancel_of p) fs))
+            (sym (no-frames to sender)) tt;
+        held = λ m. subst
+            (λ items. AllByRecursion (IsCancelItem (cancel_sight w [] b p)) (filter (is_held_cancel_of p) items))
+            (sym (ap (λ d. held_for d m) directory-first ∙ holds-none m)) tt;
+        hand = tt;
+        owed = λ e. absurd (false≢true e);
+      }
+
+  -- ---- the kernel in which callers wait
+
+  whole-body : (m : Name) → erase (body_in opening m) ≡ whole_in whole_opening m
+  whole-body (Msg id) = refl
+  whole-body (Sem id) = refl
+  whole-body (Proc pid) =
+      elim (cases_eq pid 1) [
+        | inl e ↦
+            subst (λ y. erase (body_in opening (Proc y)) ≡ whole_in whole_opening (Proc y)) (sym e) refl
+        | inr d ↦
+            ap (λ o. erase (process_body o)) (get-later _ [] pid d) ∙ sym (ap whole_process (get-later _ [] pid d))
+      ]
+
+  first-unparked : (a : Marked) → Some new_alive ≡ Some a → a.marks.parked ≡ None
+  first-unparked a e = ap (λ (z : Marked). z.marks.parked) (sym (marked-same new_alive a e))
+    where
+      marked-same : (v u : Marked) → Some v ≡ Some u → v ≡ u
+      marked-same v u e = cc
+
+  none-lives : (a : Marked) → None ≡ Some a → ⊥
+  none-lives a e = cc
+
+  unparked : (p : ℕ) (a : Marked) → lives_at whole_opening (opening_pids p) ≡ Some a → a.marks.parked ≡ None
+  unparked p a lives =
+      elim (cases_eq p 1) [
+        | inl e ↦ first-unparked a (sym (ap (λ y. lives_at whole_opening (opening_pids y)) e) ∙ lives)
+        | inr d ↦
+            absurd
+            (none-lives a (sym (ap (λ t. lives_at whole_opening (if t then 1 else 0)) (ne_eqb p 1 d)) ∙ lives))
+      ]
+
+  whole : HasWhole w b
+  whole =
+      record {
+        legal = refl;
+        lines = refl;
+        alike = opening-alike;
+        sound = opening-sound;
+        bodies = whole-body;
+        marks = λ p a lives. subst (λ (o : Option Call). HasMarks Idle o a) (sym (none-under-way p))
+            (unparked p a lives);
+      }
 
   -- ---- the nodes
 
@@ -933,6 +1026,7 @@ module _ (script : Script) (r : IsRunnable script) where
           fits = refl;
           ordered = rising-put [] 1 first-place (rising-nothing Place);
         };
+        whole = whole;
         leading = subst (λ (d : Directory). IsLeading d) (sym directory-first) leads;
         pids = pids-hold;
         nodes = nodes;
@@ -943,6 +1037,7 @@ module _ (script : Script) (r : IsRunnable script) where
         };
         names = names;
         calls = calls;
+        cancels = λ p low high. cancels p;
         ways = ways;
         parcels = λ parcel there. absurd (no-parcel parcel there);
         kinds = λ kind. kind-stays (is_born_in w) (is_born_in w) _ _ (λ y g. g) (kind-is kind) (kind-holds kind);

@@ -24,6 +24,7 @@ use Rattle.world_laws.specs.Plays.{finds_place, Somewhere, believed, told, is_th
 use Rattle.world_laws.specs.Names.{PlaysTo, NameSight, name_sight, NameHolds, IsTold, IsItemFor, held_at, comes_to, belief_of, maker_tells, is_nowhere, range_steps_of, forker, is_maker, SaysOf}
 use Rattle.world_laws.specs.Ranges.{kind_sight}
 use Rattle.world_laws.specs.Families.{NodeHolds}
+use Rattle.world_laws.specs.Cancels.{Nothing}
 use Rattle.world_laws.specs.Invariant.{Holds}
 use Rattle.world_laws.proofs.Named.{name-cases, same-name, other-name}
 use Rattle.world_laws.proofs.Stays.{IsMore, SameName, name-stays}
@@ -70,6 +71,8 @@ pub name-placed : (script : Script) (pids : ℕ → ℕ) (born : ℕ → Bool) (
     → NameHolds script pids born name x → NameHolds script pids born name (known-at x place tells needs)
 name-placed script pids born name x place tells needs s h =
     record {
+      parts = h.parts;
+      callers = h.callers;
       made = h.made;
       place_fits = h.place_fits;
       tables = h.tables;
@@ -255,6 +258,8 @@ module _ (script : Script) (w : World) (b : Beside) (holds : Holds script w [] b
         no_lease_sent = λ kind. tt;
         of_no_call = λ y. (refl, tt);
         sent_of_no_call = λ y. tt;
+        no_cancel_taken = λ y. (refl, tt);
+        no_cancel_sent = λ y. tt;
         may_be_sent = tt;
         to_others = tt;
       }
@@ -331,6 +336,7 @@ module _ (script : Script) (w : World) (b : Beside) (holds : Holds script w [] b
         maker = ap (λ ranges. maker_in ranges (number_of name)) (sym (same.ranges_are (kind_of name)));
         stays = λ y. ap is_none (sym (same.partings_are y));
         used = refl;
+        part = refl;
         body = refl;
         deed = refl;
         held = λ y. sym (read-same script p w next after.node takes after.sends [] changes
@@ -342,9 +348,9 @@ module _ (script : Script) (w : World) (b : Beside) (holds : Holds script w [] b
         hand = refl;
         begins = begins-now;
         steps = λ y. sym (made-same script p w next after.node takes after.sends [] changes
-            (λ t s fs. plays b.call name fs) (λ t s. flat_map-is-list-map _) (refl, tt) tt y 1);
+            (λ t s fs. plays x.used b.call name fs) (λ t s. flat_map-is-list-map _) (refl, tt) tt y 1);
         ranges = λ y. sym (made-same script p w next after.node takes after.sends [] changes
-            (λ t s fs. flat_map (range_steps_of b.call name) fs) (λ t s. flat_map-is-list-map _) (refl, tt) tt y
+            (λ t s fs. flat_map (range_steps_of x.used b.call name) fs) (λ t s. flat_map-is-list-map _) (refl, tt) tt y
             1);
         placed = λ y. refl;
         news = λ y. refl;
@@ -355,13 +361,14 @@ module _ (script : Script) (w : World) (b : Beside) (holds : Holds script w [] b
       record {
         directory = leaves m (place-elsewhere m e);
         used_is = refl;
+        part_is = refl;
         body_is = refl;
         deed_is = refl;
         held_is = refl;
         begins_is = λ holds_it comes. refl;
         hand_is = refl;
-        steps_are = λ y. refl;
-        ranges_are = λ y. refl;
+        steps_are = λ used y. refl;
+        ranges_are = λ used y. refl;
       }
 
   names : (m : Name) → NameHolds script b.pids (is_born_in next) m (name_sight script next [] b m)
@@ -378,14 +385,16 @@ module _ (script : Script) (w : World) (b : Beside) (holds : Holds script w [] b
       ]
     where
       more : IsMore (is_born_in w) (is_born_in next)
-      more = quiet-born script w next [] b b.deed p after.node takes after.sends h.low h.high holds changes quiet
+      more = quiet-born script w next [] Nothing b b.deed p after.node takes after.sends h.low h.high holds changes
+          quiet
 
   -- Nothing beside the world changes.
   pub placed-keeps : KeepsAs script w (events.Take p q) b
   placed-keeps =
       record {
         next = next;
-        is_step = take-steps script w p q (frames.Placed name node) rest after holds.shape h rule;
-        holds = quiet-keeps script w next [] b b.deed p after.node takes after.sends h.low h.high holds changes quiet
+        is_step = take-steps script w p q (frames.Placed name node) rest after holds.shape h rule refl;
+        holds = quiet-keeps script w next [] Nothing b b.deed p after.node takes after.sends h.low h.high holds changes
+            quiet
             names;
       }

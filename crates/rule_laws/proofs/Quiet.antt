@@ -1,6 +1,6 @@
 -- An event that carries out no call, moves none, and brings no process to life or to its end. It moves deeds of queues
 -- and sets, or tells the leader where a name is. What is left to show is the names, and the node at work.
-use Rattle.std.proofs.Common.{◌≡◌, ◌≢◌, ℕ, ◌≤◌, true, false, List, [], Contains, filter, refl, ap, sym, subst, ◌∙◌, inl, inr, append-nil}
+use Rattle.std.proofs.Common.{◌≡◌, ◌≢◌, ℕ, ◌≤◌, true, false, List, [], Contains, filter, is_none, refl, ap, sym, subst, ◌∙◌, inl, inr, append-nil}
 use Rattle.std.specs.List.{AllByRecursion}
 use Rattle.std.proofs.lemmas.Bool.{cases_eq}
 use Rattle.pico_base.specs.declared.numbers.Kind.{Kind}
@@ -9,7 +9,7 @@ use Rattle.pico_base.specs.declared.numbers.Name.TheVariants.{Proc}
 use Rattle.pico_base.specs.declared.script.Script.{Script}
 use Rattle.rpc_frame.specs.declared.frame.Frame.{Frame}
 use Rattle.number_maps.specs.Maps.{get}
-use Rattle.entry_laws.specs.Entering.{HasHistory}
+use Rattle.waiting_model.specs.Calls.{waits_at}
 use Rattle.node_model.specs.declared.held.Held.{Held}
 use Rattle.node_model.specs.declared.held.Held.TheVariants.{Ending}
 use Rattle.node_model.specs.Caller.{Caller}
@@ -21,14 +21,20 @@ use Rattle.world_laws.specs.Places.{DeedPlace, Beside}
 use Rattle.world_laws.specs.Sights.{node_of, frames_to, directory_of, is_born_in, is_born_stage}
 use Rattle.world_laws.specs.Names.{NameHolds, name_sight, forker}
 use Rattle.world_laws.specs.Callers.{call_sight, is_about, is_item_about}
+use Rattle.world_laws.specs.Cancels.{CancelIf, Owing, cancel_sight, is_cancel_of}
+use Rattle.world_laws.specs.Wholes.{HasMarks, WholeIf, under_way_at}
 use Rattle.world_laws.specs.Ways.{way_sight, knows_parent}
 use Rattle.world_laws.specs.Ranges.{kind_sight, KeysHold}
 use Rattle.world_laws.specs.Families.{NodeHolds}
-use Rattle.world_laws.specs.Invariant.{Holds, IsLeading, MayBe, FramesFit, process_deed}
+use Rattle.world_laws.specs.Invariant.{HoldsOwing, IsLeading, MayBe, FramesFit, process_deed}
 use Rattle.world_laws.proofs.Stays.{IsMore, node-born, may-be-born, call-stays, way-stays, kind-stays}
+use Rattle.world_laws.proofs.Cancels.{cancel-left-alone, is_item_of}
 use Rattle.world_laws.proofs.Changes.{Changes, read-same, still-born}
 use Rattle.world_laws.proofs.Frames.{ArePlain, BringNoBirth, BringNoLease, all-weaker}
 use Rattle.world_laws.proofs.LeftAlone.{SameCaller, LeavesCall, call-left-alone, way-left-alone, parcel-was-there, sender-stays, kind-left-alone, family-left-alone, other-node-stays, frames-still-fit, few-still}
+use Rattle.world_laws.proofs.Wholes.{whole-left-alone}
+use Rattle.rule_laws.proofs.CallMoves.{cancel-if-same}
+use Rattle.rule_laws.proofs.Nowhere.{nowhere-unused, still-unknown}
 
 -- the directory says the same but for where names are, and what it holds for them is the same
 pub record SameButPlaces (d d' : Directory) : Type 0 where
@@ -68,12 +74,14 @@ pub record IsQuiet (script : Script) (w w' : World) (b : Beside) (deed : Name �
   pub no_lease_sent : BringNoLease sends
   pub of_no_call : (x : ℕ) → AllByRecursion (λ s. is_about x p s.0 s.1 ≡ false) takes
   pub sent_of_no_call : (x : ℕ) → AllByRecursion (λ s. is_about x s.0 p s.1 ≡ false) sends
+  pub no_cancel_taken : (x : ℕ) → AllByRecursion (λ s. is_cancel_of x s.1 ≡ false) takes
+  pub no_cancel_sent : (x : ℕ) → AllByRecursion (λ s. is_cancel_of x s.1 ≡ false) sends
   pub may_be_sent : AllByRecursion (λ s. MayBe script (is_born_in w) s.0 p s.1) sends
   pub to_others : AllByRecursion (λ s. s.0 ≢ p) sends
 
-module _ (script : Script) (w w' : World) (hand : List Held) (b : Beside) (deed : Name → DeedPlace) (p : ℕ) (n : Node)
-    (takes sends : List (ℕ × Frame)) (low : 1 ≤ p) (high : p ≤ node_count script)
-    (holds : Holds script w hand b) (c : Changes script p w w' n takes sends [])
+module _ (script : Script) (w w' : World) (hand : List Held) (owes : Owing) (b : Beside) (deed : Name → DeedPlace)
+    (p : ℕ) (n : Node) (takes sends : List (ℕ × Frame)) (low : 1 ≤ p) (high : p ≤ node_count script)
+    (holds : HoldsOwing script w hand owes b) (c : Changes script p w w' n takes sends [])
     (q : IsQuiet script w w' b deed p n takes sends) where
   abbrev after : Beside
   after = record b { deed = deed }
@@ -89,9 +97,23 @@ module _ (script : Script) (w w' : World) (hand : List Held) (b : Beside) (deed 
   quiet-born =
       still-born script p w w' n takes sends [] c (λ h. ap is_born_stage same-caller.stage ∙ h)
 
-  quiet-history : HasHistory script w'.journal b.kernel b.places
-  quiet-history =
-      subst (λ j. HasHistory script j b.kernel b.places) (sym (c.journal ∙ append-nil w.journal)) holds.history
+  same-under-way : (x : ℕ) → under_way_at w' x ≡ under_way_at w x
+  same-under-way x =
+      read-same script p w w' n takes sends [] c (λ (m : Node). m.caller.under_way)
+      (ap (λ (m : Caller). m.under_way) same-caller.caller) x
+
+  quiet-whole : WholeIf owes w' after
+  quiet-whole =
+      whole-left-alone w w' b after owes
+      (record {
+        journal_is = c.journal ∙ append-nil w.journal;
+        lines_are = refl;
+        kernel_is = refl;
+        whole_is = refl;
+        pids_are = λ x. refl;
+        bodies_are = λ name. refl;
+        marks_still = λ x a lives. subst (λ o. HasMarks (b.call x) o a) (sym (same-under-way x));
+      }) holds.whole
 
   quiet-nodes : (x : ℕ) → 1 ≤ x → x ≤ node_count script
       → NodeHolds script b.pids (is_born_in w') x (node_of w' x)
@@ -123,6 +145,7 @@ module _ (script : Script) (w w' : World) (hand : List Held) (b : Beside) (deed 
         call_is = refl;
         held_is = λ name. ap (filter (is_item_about x)) (directory.held_is name);
         hand_is = refl;
+        waiters_are = λ name. refl;
       }
 
   quiet-keys : KeysHold (node_of w' 1).leader b.kernel
@@ -137,14 +160,39 @@ module _ (script : Script) (w w' : World) (hand : List Held) (b : Beside) (deed 
             ∙ keys.sets key;
       }
 
+  -- the withdrawals, once the names hold
+  quiet-cancels : ((name : Name)
+      → NameHolds script b.pids (is_born_in w') name (name_sight script w' hand after name))
+      → (x : ℕ) → 1 ≤ x → x ≤ node_count script → CancelIf x owes (cancel_sight w' hand after x)
+  quiet-cancels names x low_x high_x =
+      cancel-if-same x owes (cancel_sight w hand b x) (cancel_sight w' hand after x) refl
+      (cancel-left-alone script p w w' n takes sends [] c hand hand b after x
+      (record {
+        own = λ e. same-caller;
+        call_is = refl;
+        cancel_is = refl;
+        held_is = λ name. ap (filter (is_item_of x)) (directory.held_is name);
+        hand_is = refl;
+        nowhere = λ call is may l. record {
+          node = l.node;
+          is = l.is;
+          leaves = ap is_none (directory.partings_are l.node) ∙ l.leaves;
+          unknown = still-unknown script b.pids (is_born_in w') w' hand after (waits_at (node_of w x).pid call)
+              (names (waits_at (node_of w x).pid call))
+              (nowhere-unused script w hand owes b holds x low_x high_x call is may l);
+        };
+      }) (q.of_no_call x) (q.sent_of_no_call x) (q.no_cancel_taken x) (q.no_cancel_sent x))
+      (holds.cancels x low_x high_x)
+
   -- All holds after it, where it holds for the names.
   pub quiet-keeps : ((name : Name)
       → NameHolds script b.pids (is_born_in w') name (name_sight script w' hand after name))
-      → Holds script w' hand after
+      → HoldsOwing script w' hand owes after
   quiet-keeps names =
       record {
         shape = c.shape;
-        history = quiet-history;
+        history = holds.history;
+        whole = quiet-whole;
         leading = directory.leads;
         pids = holds.pids;
         nodes = quiet-nodes;
@@ -154,6 +202,7 @@ module _ (script : Script) (w w' : World) (hand : List Held) (b : Beside) (deed 
             (call_sight w' hand after x) quiet-born
             (call-left-alone script p w w' n takes sends [] c hand hand b after x (quiet-call x) (q.of_no_call x)
             (q.sent_of_no_call x)) (holds.calls x low_x high_x);
+        cancels = quiet-cancels names;
         ways = λ x low_x high_x. way-stays script b.pids x (knows_parent script w b.pids x)
             (knows_parent script w' b.pids x) (way_sight w x) (way_sight w' x)
             (directory.known_still (Proc (b.pids (forker script x))))

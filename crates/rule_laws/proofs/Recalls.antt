@@ -21,6 +21,7 @@ use Rattle.world_laws.specs.Sights.{node_of, frames_to, directory_of, stage_of, 
 use Rattle.world_laws.specs.Plays.{steps_if, Has, Lacks, PlayStep, Goes, plays, play, begin, is_there, is_checkpoint_of, has_any, placed_in, news}
 use Rattle.world_laws.specs.Names.{may_be_at, NameSight, name_sight, NameHolds, held_at, held_as, comes_to, is_stream_of, is_kept_for, is_hand_place, node_in, IsBringer, IsItemWith, OneIf, PlaysTo, belief_of, range_steps_of, forker, is_maker}
 use Rattle.world_laws.specs.Families.{NodeHolds}
+use Rattle.world_laws.specs.Cancels.{Nothing}
 use Rattle.world_laws.specs.Invariant.{Holds, MayBe}
 use Rattle.world_laws.proofs.Named.{name-cases, same-name, other-name, get-without-same-name, get-without-other-name}
 use Rattle.world_laws.proofs.Stays.{IsMore, SameName, name-stays}
@@ -82,6 +83,8 @@ module _ (script : Script) (pids : ℕ → ℕ) (born : ℕ → Bool) (name : Na
   pub name-recalled : NameHolds script pids born name (recalled x p (frames.GiveBack (pack name x.body)) rest)
   name-recalled =
       record {
+        parts = h.parts;
+        callers = h.callers;
         made = (λ e. absurd (not-unmade e), λ u. absurd (used u));
         place_fits = object;
         tables = λ q. refl;
@@ -133,15 +136,15 @@ module _ (script : Script) (w : World) (b : Beside) (holds : Holds script w [] b
   low-node = let low = h.low in omega (arith, low, other)
 
   -- the play finds the deed here
-  plays-first : plays b.call name (frames_to w p 1) ≡ Goes ∷ plays b.call name rest
+  plays-first : plays x.used b.call name (frames_to w p 1) ≡ Goes ∷ plays x.used b.call name rest
   plays-first =
-      ap (λ fs. plays b.call name fs) (head-is script w p 1 (frames.Recall name) rest h)
-      ∙ ap (λ t. steps_if t Goes ++ plays b.call name rest) (same-name name name refl)
+      ap (λ fs. plays x.used b.call name fs) (head-is script w p 1 (frames.Recall name) rest h)
+      ∙ ap (λ t. steps_if t Goes ++ plays x.used b.call name rest) (same-name name name refl)
 
   begins-here : x.begins p ≡ Has
   begins-here =
       let old : PlaysTo (x.begins p) (x.steps p) (is_there p (belief_of x)) = known.plays p low-node
-      in let gone = play-goes (x.begins p) old.last (plays b.call name rest)
+      in let gone = play-goes (x.begins p) old.last (plays x.used b.call name rest)
       (ap (λ ss. play (x.begins p) ss) (sym plays-first) ∙ old.plays)
       in gone.0
 
@@ -248,6 +251,8 @@ module _ (script : Script) (w : World) (b : Beside) (holds : Holds script w [] b
         no_lease_sent = λ kind. (refl, tt);
         of_no_call = λ y. (refl, tt);
         sent_of_no_call = λ y. (refl, tt);
+        no_cancel_taken = λ y. (refl, tt);
+        no_cancel_sent = λ y. (refl, tt);
         may_be_sent = (refl, tt);
         to_others = ((λ e. other (sym e)), tt);
       }
@@ -291,28 +296,28 @@ module _ (script : Script) (w : World) (b : Beside) (holds : Holds script w [] b
       ]
 
   abbrev rest-steps : List PlayStep
-  rest-steps = plays b.call name (changes.left p 1)
+  rest-steps = plays x.used b.call name (changes.left p 1)
 
   steps-were : x.steps p ≡ Goes ∷ rest-steps
   steps-were =
       rest-stays script p 1 w next after.node (frames.Recall name) after.sends [] changes
-      (λ t s fs. plays b.call name fs) (λ t s. flat_map-is-list-map _)
+      (λ t s fs. plays x.used b.call name fs) (λ t s. flat_map-is-list-map _)
       ∙ ap (λ t. (steps_if t Goes ++ []) ++ rest-steps) (same-name name name refl)
 
-  steps-now : (q : ℕ) → (if nat_eq q p then rest-steps else x.steps q) ≡ plays b.call name (frames_to next q 1)
+  steps-now : (q : ℕ) → (if nat_eq q p then rest-steps else x.steps q) ≡ plays x.used b.call name (frames_to next q 1)
   steps-now q =
       elim (cases_eq q p) [
         | inl e ↦
             ap (λ t. if t then rest-steps else x.steps q) (eq-eqb q p e)
-            ∙ subst (λ y. rest-steps ≡ plays b.call name (frames_to next y 1)) (sym e)
+            ∙ subst (λ y. rest-steps ≡ plays x.used b.call name (frames_to next y 1)) (sym e)
             (sym (only-stayed script p w next after.node takes after.sends [] changes
-            (λ t s fs. plays b.call name fs) (λ t s. flat_map-is-list-map _) (refl, tt) p 1))
+            (λ t s fs. plays x.used b.call name fs) (λ t s. flat_map-is-list-map _) (refl, tt) p 1))
         | inr d ↦
             ap (λ t. if t then rest-steps else x.steps q) (ne_eqb q p d)
             ∙ sym (only-stayed script p w next after.node takes after.sends [] changes
-            (λ t s fs. plays b.call name fs) (λ t s. flat_map-is-list-map _) (refl, tt) q 1
+            (λ t s fs. plays x.used b.call name fs) (λ t s. flat_map-is-list-map _) (refl, tt) q 1
             ∙ others-stay script p 1 w next after.node (frames.Recall name) after.sends [] changes
-            (λ t s fs. plays b.call name fs) (λ t s. flat_map-is-list-map _) q 1 (inl d))
+            (λ t s fs. plays x.used b.call name fs) (λ t s. flat_map-is-list-map _) q 1 (inl d))
       ]
 
   brought-before : (to sender : ℕ) → x.brought to sender ≡ []
@@ -344,6 +349,7 @@ module _ (script : Script) (w : World) (b : Beside) (holds : Holds script w [] b
         maker = ap (λ y. maker y name) (sym same-there);
         stays = λ q. ap (λ y. stays y q) (sym same-there);
         used = refl;
+        part = refl;
         body = refl;
         deed = sym (ap (λ t. if t then InGiveBack p else b.deed name) (same-name name name refl));
         held = held-now;
@@ -353,7 +359,7 @@ module _ (script : Script) (w : World) (b : Beside) (holds : Holds script w [] b
         begins = begins-now;
         steps = steps-now;
         ranges = λ q. sym (made-same script p w next after.node takes after.sends [] changes
-            (λ t s fs. flat_map (range_steps_of b.call name) fs) (λ t s. flat_map-is-list-map _) (refl, tt)
+            (λ t s fs. flat_map (range_steps_of x.used b.call name) fs) (λ t s. flat_map-is-list-map _) (refl, tt)
             (refl, tt) q 1);
         placed = λ q. sym (made-same script p w next after.node takes after.sends [] changes
             (λ t s fs. placed_in name fs) (λ t s. flat_map-is-list-map _) (refl, tt) (refl, tt) 1 q);
@@ -368,13 +374,14 @@ module _ (script : Script) (w : World) (b : Beside) (holds : Holds script w [] b
       record {
         directory = same-directory (directory_of w) (directory_of next) same-there m;
         used_is = refl;
+        part_is = refl;
         body_is = refl;
         deed_is = ap (λ t. if t then InGiveBack p else b.deed m) (other-name name m (λ e. d (sym e)));
         held_is = get-without-other-name n.deeds name m d;
         begins_is = λ holds_it comes. refl;
         hand_is = refl;
-        steps_are = λ q. refl;
-        ranges_are = λ q. refl;
+        steps_are = λ used q. refl;
+        ranges_are = λ used q. refl;
       }
 
   names : (m : Name) → NameHolds script b.pids (is_born_in next) m (name_sight script next [] moved m)
@@ -393,7 +400,8 @@ module _ (script : Script) (w : World) (b : Beside) (holds : Holds script w [] b
     where
       more : IsMore (is_born_in w) (is_born_in next)
       more =
-          quiet-born script w next [] b (deed_in b.deed name (InGiveBack p)) p after.node takes after.sends h.low
+          quiet-born script w next [] Nothing b (deed_in b.deed name (InGiveBack p))
+          p after.node takes after.sends h.low
           h.high holds changes quiet
 
   -- The deed is in a GiveBack of this node now.
@@ -401,7 +409,8 @@ module _ (script : Script) (w : World) (b : Beside) (holds : Holds script w [] b
   recall-keeps =
       record {
         next = next;
-        is_step = take-steps script w p 1 (frames.Recall name) rest after holds.shape h rule;
-        holds = quiet-keeps script w next [] b (deed_in b.deed name (InGiveBack p)) p after.node takes after.sends
+        is_step = take-steps script w p 1 (frames.Recall name) rest after holds.shape h rule refl;
+        holds = quiet-keeps script w next [] Nothing b (deed_in b.deed name (InGiveBack p))
+            p after.node takes after.sends
             h.low h.high holds changes quiet names;
       }

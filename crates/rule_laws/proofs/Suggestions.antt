@@ -22,6 +22,7 @@ use Rattle.world_laws.specs.Sights.{node_of, frames_to, directory_of, stage_of, 
 use Rattle.world_laws.specs.Plays.{Hold, Has, Lacks, Done, Somewhere, believed, is_there, is_has, is_checkpoint_of, has_any, placed_in, news, plays, play_on, Goes, steps_if, begin}
 use Rattle.world_laws.specs.Names.{NameSight, name_sight, NameHolds, PlaysTo, held_at, comes_to, belief_of, maker_tells, range_steps_of, forker, is_maker}
 use Rattle.world_laws.specs.Families.{NodeHolds}
+use Rattle.world_laws.specs.Cancels.{Nothing}
 use Rattle.world_laws.specs.Invariant.{Holds, MayBe, IsShaped}
 use Rattle.world_laws.proofs.Named.{name-cases, same-name, other-name}
 use Rattle.world_laws.proofs.Played.{play-append}
@@ -122,6 +123,8 @@ module _ (script : Script) (pids : ℕ → ℕ) (born : ℕ → Bool) (name : Na
   pub name-asked-back : NameHolds script pids born name (asked-back x owner to)
   name-asked-back =
       record {
+        parts = h.parts;
+        callers = h.callers;
         made = h.made;
         place_fits = h.place_fits;
         tables = h.tables;
@@ -228,6 +231,8 @@ module _ (script : Script) (w : World) (b : Beside) (holds : Holds script w [] b
           no_lease_sent = λ kind. (refl, tt);
           of_no_call = λ y. (refl, tt);
           sent_of_no_call = λ y. (refl, tt);
+          no_cancel_taken = λ y. (refl, tt);
+          no_cancel_sent = λ y. (refl, tt);
           may_be_sent = ((refl, object), tt);
           to_others = (other, tt);
         }
@@ -246,17 +251,17 @@ module _ (script : Script) (w : World) (b : Beside) (holds : Holds script w [] b
         ∙ sym (read-same script 1 w next after.node takes after.sends [] changes
         (λ (m : Node). begin m.stage (is_some (get_named m.deeds name)) (comes_to script next name y)) refl y)
 
-    goes-if : (t : Bool) → plays b.call name (frame_if t (frames.Recall name) ++ []) ≡ steps_if t Goes
+    goes-if : (t : Bool) → plays x.used b.call name (frame_if t (frames.Recall name) ++ []) ≡ steps_if t Goes
     goes-if true = ap (λ u. steps_if u Goes ++ []) (same-name name name refl)
     goes-if false = refl
 
     steps-now : (y : ℕ)
-        → x.steps y ++ steps_if (nat_eq y q) Goes ≡ plays b.call name (frames_to next y 1)
+        → x.steps y ++ steps_if (nat_eq y q) Goes ≡ plays x.used b.call name (frames_to next y 1)
     steps-now y =
-        sym (made-after script 1 w next after.node takes after.sends [] changes (λ t s fs. plays b.call name fs)
+        sym (made-after script 1 w next after.node takes after.sends [] changes (λ t s fs. plays x.used b.call name fs)
         (λ t s. flat_map-is-list-map _) y 1
-        ∙ ap (λ ss. ss ++ plays b.call name (sent 1 after.sends y 1))
-        (stayed script 1 w next after.node takes after.sends [] changes (λ t s fs. plays b.call name fs)
+        ∙ ap (λ ss. ss ++ plays x.used b.call name (sent 1 after.sends y 1))
+        (stayed script 1 w next after.node takes after.sends [] changes (λ t s fs. plays x.used b.call name fs)
         (λ t s. flat_map-is-list-map _) (refl, tt) y 1)
         ∙ ap (λ ss. x.steps y ++ ss) (goes-if (nat_eq y q)))
 
@@ -269,6 +274,7 @@ module _ (script : Script) (w : World) (b : Beside) (holds : Holds script w [] b
           maker = ap (λ ranges. maker_in ranges (number_of name)) (sym (same.ranges_are (kind_of name)));
           stays = λ y. ap is_none (sym (same.partings_are y));
           used = refl;
+          part = refl;
           body = refl;
           deed = refl;
           held = λ y. sym (read-same script 1 w next after.node takes after.sends [] changes
@@ -281,7 +287,7 @@ module _ (script : Script) (w : World) (b : Beside) (holds : Holds script w [] b
           begins = begins-now;
           steps = steps-now;
           ranges = λ y. sym (made-same script 1 w next after.node takes after.sends [] changes
-              (λ t s fs. flat_map (range_steps_of b.call name) fs) (λ t s. flat_map-is-list-map _) (refl, tt)
+              (λ t s fs. flat_map (range_steps_of x.used b.call name) fs) (λ t s. flat_map-is-list-map _) (refl, tt)
               (refl, tt) y 1);
           placed = λ y. sym (made-same script 1 w next after.node takes after.sends [] changes
               (λ t s fs. placed_in name fs) (λ t s. flat_map-is-list-map _) (refl, tt) (refl, tt) 1 y);
@@ -299,13 +305,14 @@ module _ (script : Script) (w : World) (b : Beside) (holds : Holds script w [] b
           directory = directory-leaves d (directory_of next) m but-places
               (ap (λ y. place_of y m) directory-now ∙ place-with-other d name (Coming (Some to) []) m e);
           used_is = refl;
+          part_is = refl;
           body_is = refl;
           deed_is = refl;
           held_is = refl;
           begins_is = λ holds_it comes. refl;
           hand_is = refl;
-          steps_are = λ y. refl;
-          ranges_are = λ y. refl;
+          steps_are = λ used y. refl;
+          ranges_are = λ used y. refl;
         }
 
     names : (m : Name) → NameHolds script b.pids (is_born_in next) m (name_sight script next [] b m)
@@ -323,7 +330,8 @@ module _ (script : Script) (w : World) (b : Beside) (holds : Holds script w [] b
         ]
       where
         more : IsMore (is_born_in w) (is_born_in next)
-        more = quiet-born script w next [] b b.deed 1 after.node takes after.sends h.low h.high holds changes quiet
+        more = quiet-born script w next [] Nothing b b.deed 1 after.node takes after.sends h.low h.high holds changes
+            quiet
 
     is-at : is_at q (place_of d name) ≡ true
     is-at = ap (is_at q) place ∙ eq-eqb q q refl
@@ -338,8 +346,9 @@ module _ (script : Script) (w : World) (b : Beside) (holds : Holds script w [] b
     moves-keeps =
         record {
           next = next;
-          is_step = take-steps script w 1 q (frames.Suggest name to) rest after holds.shape h rule;
-          holds = quiet-keeps script w next [] b b.deed 1 after.node takes after.sends h.low h.high holds changes
+          is_step = take-steps script w 1 q (frames.Suggest name to) rest after holds.shape h rule refl;
+          holds = quiet-keeps script w next [] Nothing b b.deed 1 after.node takes after.sends h.low h.high holds
+              changes
               quiet names;
         }
 
@@ -376,6 +385,8 @@ module _ (script : Script) (w : World) (b : Beside) (holds : Holds script w [] b
           no_lease_sent = λ kind. tt;
           of_no_call = λ y. (refl, tt);
           sent_of_no_call = λ y. tt;
+          no_cancel_taken = λ y. (refl, tt);
+          no_cancel_sent = λ y. tt;
           may_be_sent = tt;
           to_others = tt;
         }
@@ -385,26 +396,28 @@ module _ (script : Script) (w : World) (b : Beside) (holds : Holds script w [] b
         record {
           directory = same-directory d (directory_of late-next) late-directory-now m;
           used_is = refl;
+          part_is = refl;
           body_is = refl;
           deed_is = refl;
           held_is = refl;
           begins_is = λ holds_it comes. refl;
           hand_is = refl;
-          steps_are = λ y. refl;
-          ranges_are = λ y. refl;
+          steps_are = λ used y. refl;
+          ranges_are = λ used y. refl;
         }
 
     late-more : IsMore (is_born_in w) (is_born_in late-next)
     late-more =
-        quiet-born script w late-next [] b b.deed 1 late-after.node takes [] h.low h.high holds late-changes late-quiet
+        quiet-born script w late-next [] Nothing b b.deed 1 late-after.node takes [] h.low h.high holds late-changes
+        late-quiet
 
     late-keeps : KeepsAs script w (events.Take 1 q) b
     late-keeps =
         record {
           next = late-next;
           is_step = take-steps script w 1 q (frames.Suggest name to) rest late-after holds.shape h
-              (rule-by ∙ ap (λ t. Some (if t then recall_from (step_to n) name (Some to) q else step_to n)) late);
-          holds = quiet-keeps script w late-next [] b b.deed 1 late-after.node takes [] h.low h.high holds
+              (rule-by ∙ ap (λ t. Some (if t then recall_from (step_to n) name (Some to) q else step_to n)) late) refl;
+          holds = quiet-keeps script w late-next [] Nothing b b.deed 1 late-after.node takes [] h.low h.high holds
               late-changes late-quiet
               (λ m. name-stays script b.pids (is_born_in w) (is_born_in late-next) m _ _ late-more
               (name-left-alone script 1 w late-next late-after.node takes [] [] late-changes [] [] b b m

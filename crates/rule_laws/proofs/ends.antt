@@ -8,5 +8,6 @@ pub mod Leavings
 pub mod Lefts
 pub mod Taken
 pub mod Releases
+pub mod Unmoved
 pub mod Keeping
 pub mod KeptItems

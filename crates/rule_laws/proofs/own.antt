@@ -6,7 +6,14 @@ pub mod EntryMoves
 pub mod Served
 pub mod Rebodied
 pub mod Runs
+pub mod Starting
+pub mod Bodies
+pub mod InWhole
+pub mod Alone
+pub mod OwnResults
+pub mod OwnServed
 pub mod OwnCalls
+pub mod OwnWaits
 pub mod Outs
 pub mod Asks
 pub mod Requests

@@ -41,10 +41,20 @@ to_leader fs = map (λ f. (1, f)) fs
 
 -- a step that sends these to the leader, one after another
 pub fold-sends : (s : Step) (fs : List Frame) → fold send_to_leader s fs ≡ record s { sends = s.sends ++ to_leader fs }
-fold-sends s [] = λ i. record { node = s.node; entries = s.entries; sends = (sym (append-nil s.sends)) i }
+fold-sends s [] = λ i. record {
+  node = s.node;
+  entries = s.entries;
+  sends = (sym (append-nil s.sends)) i;
+  strikes = s.strikes;
+}
 fold-sends s (f ∷ fs) =
     fold-sends (send_to_leader s f) fs
-    ∙ (λ i. record { node = s.node; entries = s.entries; sends = append_assoc s.sends ((1, f) ∷ []) (to_leader fs) i })
+    ∙ (λ i. record {
+      node = s.node;
+      entries = s.entries;
+      sends = append_assoc s.sends ((1, f) ∷ []) (to_leader fs) i;
+      strikes = s.strikes;
+    })
 
 -- of frames with their receivers, those to a node
 abbrev those_to : ℕ → List (ℕ × Frame) → List Frame

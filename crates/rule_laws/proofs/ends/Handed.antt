@@ -92,6 +92,8 @@ pub name-left-by : (script : Script) (pids : ℕ → ℕ) (born : ℕ → Bool) 
     → NameHolds script pids born name (left_by x p rest)
 name-left-by script pids born name x h p rest steps =
     record {
+      parts = h.parts;
+      callers = h.callers;
       made = h.made;
       place_fits = h.place_fits;
       tables = h.tables;
@@ -173,6 +175,8 @@ module _ (script : Script) (pids : ℕ → ℕ) (born : ℕ → Bool) (name : Na
   pub name-handed-over : NameHolds script pids born name (handed_over x p (is_object name) frame rest)
   name-handed-over =
       record {
+        parts = h.parts;
+        callers = h.callers;
         made = (λ e. absurd (not-unmade p (is_object name) e), λ u. absurd (was-used u));
         place_fits = fits-handed p (is_object name);
         tables = held-handed p (is_object name) x.body;

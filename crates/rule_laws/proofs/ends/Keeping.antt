@@ -26,6 +26,8 @@ pub name-with-item : (script : Script) (pids : ℕ → ℕ) (born : ℕ → Bool
     → NameHolds script pids born name x → NameHolds script pids born name (with_item x to items item)
 name-with-item script pids born name x to items item was is_for h =
     record {
+      parts = h.parts;
+      callers = h.callers;
       made = h.made;
       place_fits = h.place_fits;
       tables = h.tables;
@@ -76,6 +78,8 @@ pub name-kept : (script : Script) (pids : ℕ → ℕ) (born : ℕ → Bool) (na
     → NameHolds script pids born name x → NameHolds script pids born name (kept_for x c hand kept)
 name-kept script pids born name x c parcel hand kept s h =
     record {
+      parts = h.parts;
+      callers = h.callers;
       made = (λ e. absurd (not-unmade e), λ u. absurd (was-used u));
       place_fits = ap (may_be_at (is_object name)) (sym s.was) ∙ h.place_fits;
       tables = λ q. h.tables q ∙ ap (λ d. held_as d x.body q) s.was;

@@ -7,7 +7,7 @@ use Rattle.pico_base.specs.declared.numbers.Name.{Name}
 use Rattle.pico_base.specs.declared.numbers.Name.TheVariants.{Proc}
 use Rattle.pico_base.specs.declared.script.Script.{Script}
 use Rattle.rpc_frame.specs.declared.deed.Parcel.{Parcel}
-use Rattle.entry_laws.specs.Entering.{HasHistory, is_used_name}
+use Rattle.entry_laws.specs.Entering.{is_used_name}
 use Rattle.node_model.specs.declared.held.Held.{Held}
 use Rattle.node_model.specs.declared.held.Held.TheVariants.{Ending}
 use Rattle.node_model.specs.Kinds.{kind_of, is_same_name, get_named, for_kind}
@@ -22,9 +22,10 @@ use Rattle.kernel_model.specs.Kernel as kernel
 use Rattle.pico_base.specs.declared.numbers.Kind.{Kind}
 use Rattle.rpc_frame.specs.declared.frame.Frame.TheVariants as frames
 use Rattle.number_maps.proofs.Rising.{rising-put}
-use Rattle.world_laws.specs.Callers.{call_sight, is_item_about}
+use Rattle.world_laws.specs.Callers.{call_sight}
 use Rattle.world_laws.specs.Families.{NodeHolds, FamilyHolds, IsWhereFor, IsWithParent, CheckpointIn, IsNewAt, IsAwaited, checkpoints_to}
 use Rattle.world_laws.proofs.LeftAlone.{LeavesCall, call-left-alone, way-left-alone, was-there, sender-stays, kind-left-alone, other-node-stays, frames-still-fit, few-still}
+use Rattle.rule_laws.proofs.CallMoves.{call-items-same}
 use Rattle.rule_laws.proofs.Nodes.{node-with-directory}
 use Rattle.world_laws.specs.Places.{DeedPlace, Unmade, InHand, InKept, Beside}
 use Rattle.world_laws.specs.Sights.{node_of, frames_to, directory_of, stage_of, is_born_in}
@@ -34,7 +35,9 @@ use Rattle.world_model.specs.Census.{brings}
 use Rattle.rpc_frame.specs.declared.frame.Frame.{Frame}
 use Rattle.world_laws.proofs.Stays.{IsMore, SameName, name-stays, node-born, call-stays, way-stays, kind-stays}
 use Rattle.world_laws.specs.Ways.{way_sight, knows_parent, left as left_in, sent as sent_in, kept as kept_in, IsParcelOf, IsParcelIn, at_hand, under_way_of, HasSender}
-use Rattle.world_laws.specs.Invariant.{Holds, IsLeading, process_deed}
+use Rattle.world_laws.specs.Invariant.{HoldsOwing, IsLeading, process_deed}
+use Rattle.world_laws.specs.Cancels.{Owing}
+use Rattle.world_laws.proofs.Cancels.{is_item_of}
 use Rattle.rule_laws.proofs.ends.Given.{packed-has}
 use Rattle.rule_laws.proofs.ends.Taken.{DropsFirst, drops-first}
 use Rattle.world_laws.specs.Ranges.{kind_sight, KeysHold}
@@ -42,6 +45,7 @@ use Rattle.world_laws.proofs.Numbers.{zero-is-unused}
 use Rattle.world_laws.proofs.Named.{name-cases}
 use Rattle.world_laws.proofs.Changes.{Changes, IsListMap, filter-is-list-map, flat_map-is-list-map, made-same, still-born, read-same}
 use Rattle.rule_laws.proofs.Places.{place-with-same, place-with-other}
+use Rattle.rule_laws.proofs.ends.Unmoved.{LeavesItems, cancel-unmoved, whole-unmoved}
 use Rattle.rule_laws.proofs.ends.Keeping.{name-with-item, IsKeptNow, name-kept, in-hand-is}
 
 -- ---- lists
@@ -90,8 +94,8 @@ has-its-own script pids stages under_way parcel s =
     ∙ packed-has parcel.pid is.bodies
     ∙ ap is_some (ap (get is.bodies) is.pid ∙ is.own)
 
-module _ (script : Script) (w : World) (items : List Held) (parcel : Parcel) (b : Beside)
-    (holds : Holds script w (Ending parcel ∷ items) b) where
+module _ (script : Script) (w : World) (items : List Held) (parcel : Parcel) {owes : Owing} (b : Beside)
+    (holds : HoldsOwing script w (Ending parcel ∷ items) owes b) where
   abbrev hand : List Held
   hand = Ending parcel ∷ items
 
@@ -157,8 +161,8 @@ module _ (script : Script) (w : World) (items : List Held) (parcel : Parcel) (b 
 
 -- ---- the names afterwards
 
-module _ (script : Script) (w : World) (items : List Held) (parcel : Parcel) (b : Beside)
-    (holds : Holds script w (Ending parcel ∷ items) b) (to : Option ℕ) (kept_items : List Held)
+module _ (script : Script) (w : World) (items : List Held) (parcel : Parcel) {owes : Owing} (b : Beside)
+    (holds : HoldsOwing script w (Ending parcel ∷ items) owes b) (to : Option ℕ) (kept_items : List Held)
     (place : place_of (directory_of w) (Proc parcel.parent) ≡ Some (Coming to kept_items)) (w' : World)
     (changes : Changes script 1 w w'
     (with_directory (node_of w 1) (hold (directory_of w) (Proc parcel.parent) (Ending parcel))) [] [] []) where
@@ -327,6 +331,7 @@ module _ (script : Script) (w : World) (items : List Held) (parcel : Parcel) (b 
           maker = ap (λ z. maker z name) (sym directory-now);
           stays = λ q. ap (λ z. stays z q) (sym directory-now);
           used = refl;
+          part = refl;
           body = refl;
           deed = refl;
           held = λ q. sym (read-same script 1 w w' after [] [] [] changes
@@ -335,8 +340,8 @@ module _ (script : Script) (w : World) (items : List Held) (parcel : Parcel) (b 
           kept = λ pid. ap (λ z. filter (is_parcel_with name) (held_for z (Proc pid))) (sym directory-now);
           hand = refl;
           begins = begins-now;
-          steps = λ q. none-taken-sent (λ t s fs. plays b.call name fs) (λ t s. flat_map-is-list-map _) q 1;
-          ranges = λ q. none-taken-sent (λ t s fs. flat_map (range_steps_of b.call name) fs)
+          steps = λ q. none-taken-sent (λ t s fs. plays x.used b.call name fs) (λ t s. flat_map-is-list-map _) q 1;
+          ranges = λ q. none-taken-sent (λ t s fs. flat_map (range_steps_of x.used b.call name) fs)
               (λ t s. flat_map-is-list-map _) q 1;
           placed = λ q. none-taken-sent (λ t s fs. placed_in name fs) (λ t s. flat_map-is-list-map _) 1 q;
           news = λ q. ap (λ z. news name (x.used && is_maker (maker z name) q) (frames_to w 1 q)) (sym directory-now)
@@ -471,17 +476,17 @@ module _ (script : Script) (w : World) (items : List Held) (parcel : Parcel) (b 
   -- ---- all else
 
   held-still : (x : ℕ) (name : Name)
-      → filter (is_item_about x) (held_for (directory_of w') name) ≡ filter (is_item_about x) (held_for d name)
+      → filter (is_item_of x) (held_for (directory_of w') name) ≡ filter (is_item_of x) (held_for d name)
   held-still x name =
-      ap (λ z. filter (is_item_about x) (held_for z name)) directory-now
+      ap (λ z. filter (is_item_of x) (held_for z name)) directory-now
       ∙ elim (name-cases name (Proc parcel.parent)) [
         | inl e ↦
-            subst (λ m. filter (is_item_about x) (held_for d2 m) ≡ filter (is_item_about x) (held_for d m)) (sym e)
-            (ap (filter (is_item_about x)) held-more
-            ∙ filter-append (is_item_about x) kept_items (item ∷ [])
-            ∙ append-nil (filter (is_item_about x) kept_items)
-            ∙ ap (filter (is_item_about x)) (sym held-at-parent))
-        | inr u ↦ ap (filter (is_item_about x)) (held-now name u)
+            subst (λ m. filter (is_item_of x) (held_for d2 m) ≡ filter (is_item_of x) (held_for d m)) (sym e)
+            (ap (filter (is_item_of x)) held-more
+            ∙ filter-append (is_item_of x) kept_items (item ∷ [])
+            ∙ append-nil (filter (is_item_of x) kept_items)
+            ∙ ap (filter (is_item_of x)) (sym held-at-parent))
+        | inr u ↦ ap (filter (is_item_of x)) (held-now name u)
       ]
 
   known-still : (name : Name) → is_known d name ≡ true → is_known (directory_of w') name ≡ true
@@ -573,17 +578,27 @@ module _ (script : Script) (w : World) (items : List Held) (parcel : Parcel) (b 
         place_is = refl;
         alive_is = refl;
         call_is = refl;
+        held_is = λ name. call-items-same y (held_for (directory_of w') name) (held_for d name) (held-still y name);
+        hand_is = refl;
+        waiters_are = λ name. refl;
+      }
+
+  leaves-items : (y : ℕ) → LeavesItems w w' (item ∷ items) items 1 after y
+  leaves-items y =
+      record {
+        own = λ e. record { number = refl; pid = refl; stage = refl; caller = refl; leases = refl };
         held_is = held-still y;
         hand_is = refl;
+        leaves = λ q e. ap (λ z. stays z q) directory-now ∙ e;
       }
 
   -- The parcel is held, and the others are still in hand.
-  pub parcel-held : Holds script w' items moved
+  pub parcel-held : HoldsOwing script w' items owes moved
   parcel-held =
       record {
         shape = changes.shape;
-        history = subst (λ j. HasHistory script j b.kernel b.places) (sym (changes.journal ∙ append-nil w.journal))
-            holds.history;
+        history = holds.history;
+        whole = whole-unmoved script w w' (item ∷ items) items owes b deeds-now 1 after [] [] holds changes refl;
         leading = leading-now;
         pids = holds.pids;
         nodes = nodes-now;
@@ -593,6 +608,8 @@ module _ (script : Script) (w : World) (items : List Held) (parcel : Parcel) (b 
             (call_sight w' items moved y) more
             (call-left-alone script 1 w w' after [] [] [] changes (item ∷ items) items b moved y (leaves-call y) tt tt)
             (holds.calls y low high);
+        cancels = λ y low high. cancel-unmoved script w w' (item ∷ items) items owes b deeds-now 1 after [] [] holds
+            changes names y low high (leaves-items y) tt tt tt tt;
         ways = λ q low high. way-stays script b.pids q (knows_parent script w b.pids q)
             (knows_parent script w' b.pids q) (way_sight w q) (way_sight w' q)
             (known-still (Proc (b.pids (forker script q))))

@@ -15,7 +15,7 @@ use Rattle.number_maps.specs.Maps.{get}
 use Rattle.number_maps.proofs.LookUps.{get-put-same, get-put-other}
 use Rattle.kernel_model.specs.Kernel.{Process}
 use Rattle.kernel_model.specs.Kernel as kernel
-use Rattle.entry_laws.specs.Entering.{HasHistory, is_used_name}
+use Rattle.entry_laws.specs.Entering.{is_used_name}
 use Rattle.node_model.specs.declared.held.Held.TheVariants.{Ending}
 use Rattle.node_model.specs.Kinds.{kind_of, number_of, get_named, for_kind}
 use Rattle.node_model.specs.Directory.{Directory, Place, At, Parting, IsLeaving, place_of, place_name, with_leaving, place_without, items_of, destination_of, maker, maker_in, stays, is_known, held_for, is_parcel_with}
@@ -34,6 +34,8 @@ use Rattle.world_laws.specs.Ways.{Way, way_sight, knows_parent, Shows, TellsEnd,
 use Rattle.world_laws.specs.Ranges.{KeysHold, kind_sight}
 use Rattle.world_laws.specs.Families.{NodeHolds, BornIn, IsBorn, FamilyHolds, IsWhereFor, checkpoints_to}
 use Rattle.world_laws.specs.Invariant.{Holds, IsLeading, process_deed}
+use Rattle.world_laws.specs.Cancels.{Nothing}
+use Rattle.world_laws.proofs.Cancels.{is_item_of}
 use Rattle.world_laws.proofs.Named.{name-cases}
 use Rattle.world_laws.proofs.Numbers.{used-is-taken}
 use Rattle.world_laws.proofs.Stays.{IsMore, SameName, name-stays, node-born, call-stays, SameWay, way-stays, kind-stays}
@@ -45,6 +47,7 @@ use Rattle.world_laws.proofs.Heads.{head-is, head-may-be, head-from-another, res
 use Rattle.rule_laws.proofs.Quiet.{SameButPlaces}
 use Rattle.rule_laws.proofs.Nodes.{node-with-directory, and-true}
 use Rattle.rule_laws.proofs.ends.Directories.{known_as, place-of-placed, place-of-other, place-name-keeps, keeps-both, place-of-leaving, leading-leaving, stays-leaving, items-without}
+use Rattle.rule_laws.proofs.ends.Unmoved.{LeavesItems, cancel-unmoved, whole-unmoved}
 use Rattle.rule_laws.proofs.ends.Asked.{last_if, asked_for, IsAskedFor, name-asked-for}
 
 is-not-empty : {A : Type 0} (x : A) (xs : List A) → x ∷ xs ≡ [] → ⊥
@@ -235,7 +238,7 @@ module _ (script : Script) (w : World) (b : Beside) (holds : Holds script w [] b
   d2 = with_leaving d1 c
 
   abbrev after : Step
-  after = record { node = with_directory n d2; entries = []; sends = (c, frames.RecallAll) ∷ [] }
+  after = record { node = with_directory n d2; entries = []; sends = (c, frames.RecallAll) ∷ []; strikes = false }
 
   all-true : (leads from stay low low_parent same is_a_node found leased leased_too : Bool) → leads ≡ true
       → from ≡ false → stay ≡ true → low ≡ true → low_parent ≡ true → same ≡ false → is_a_node ≡ true → found ≡ true
@@ -503,17 +506,17 @@ module _ (script : Script) (w : World) (b : Beside) (holds : Holds script w [] b
         ∙ sym (read-same script 1 w next after.node takes after.sends [] changes
         (λ (m : Node). begin m.stage (is_some (get_named m.deeds name)) (comes_to script next name q)) refl q)
 
-    last-played : (t : Bool) → plays b.call name (frames_if true (frame_if t frames.RecallAll ++ [])) ≡ last_if t
+    last-played : (t : Bool) → plays x.used b.call name (frames_if true (frame_if t frames.RecallAll ++ [])) ≡ last_if t
     last-played true = refl
     last-played false = refl
 
-    steps-now : (q : ℕ) → x.steps q ++ last_if (nat_eq q c) ≡ plays b.call name (frames_to next q 1)
+    steps-now : (q : ℕ) → x.steps q ++ last_if (nat_eq q c) ≡ plays x.used b.call name (frames_to next q 1)
     steps-now q =
         sym (made-after script 1 w next after.node takes after.sends [] changes
-        (λ t s fs. plays b.call name fs) (λ t s. flat_map-is-list-map _) q 1
-        ∙ ap (λ ss. ss ++ plays b.call name (sent 1 after.sends q 1))
+        (λ t s fs. plays x.used b.call name fs) (λ t s. flat_map-is-list-map _) q 1
+        ∙ ap (λ ss. ss ++ plays x.used b.call name (sent 1 after.sends q 1))
         (stayed script 1 w next after.node takes after.sends [] changes
-        (λ t s fs. plays b.call name fs) (λ t s. flat_map-is-list-map _) (refl, tt) q 1)
+        (λ t s fs. plays x.used b.call name fs) (λ t s. flat_map-is-list-map _) (refl, tt) q 1)
         ∙ ap (λ ss. x.steps q ++ ss) (last-played (nat_eq q c)))
 
     sight-now : SameName (asked_for x c (place_of d1 name) needs) (name_sight script next [] b name)
@@ -523,6 +526,7 @@ module _ (script : Script) (w : World) (b : Beside) (holds : Holds script w [] b
           maker = sym (maker-same name);
           stays = λ q. sym (stays-now q);
           used = refl;
+          part = refl;
           body = refl;
           deed = refl;
           held = λ q. sym (read-same script 1 w next after.node takes after.sends [] changes
@@ -535,7 +539,7 @@ module _ (script : Script) (w : World) (b : Beside) (holds : Holds script w [] b
           begins = begins-now;
           steps = steps-now;
           ranges = λ q. sym (made-same script 1 w next after.node takes after.sends [] changes
-              (λ t s fs. flat_map (range_steps_of b.call name) fs) (λ t s. flat_map-is-list-map _) (refl, tt)
+              (λ t s fs. flat_map (range_steps_of x.used b.call name) fs) (λ t s. flat_map-is-list-map _) (refl, tt)
               (refl, tt) q 1);
           placed = λ q. sym (made-same script 1 w next after.node takes after.sends [] changes
               (λ t s fs. placed_in name fs) (λ t s. flat_map-is-list-map _) (refl, tt) (refl, tt) 1 q);
@@ -575,7 +579,21 @@ module _ (script : Script) (w : World) (b : Beside) (holds : Holds script w [] b
         call_is = refl;
         held_is = λ name. ap (filter (is_item_about y)) (held-same name);
         hand_is = refl;
+        waiters_are = λ name. refl;
       }
+
+  leaves-items : (y : ℕ) → LeavesItems w next [] [] 1 after.node y
+  leaves-items y =
+      record {
+        own = λ e. record { number = refl; pid = refl; stage = refl; caller = refl; leases = refl };
+        held_is = λ name. ap (filter (is_item_of y)) (held-same name);
+        hand_is = refl;
+        leaves = λ q e. stays-now q ∙ ap (λ t. if nat_eq q c then false else t) e ∙ false-if (nat_eq q c);
+      }
+    where
+      false-if : (t : Bool) → (if t then false else false) ≡ false
+      false-if true = refl
+      false-if false = refl
 
   -- ---- the ways
 
@@ -737,11 +755,11 @@ module _ (script : Script) (w : World) (b : Beside) (holds : Holds script w [] b
   leaving-first-keeps =
       record {
         next = next;
-        is_step = take-steps script w 1 c frame rest after holds.shape h rule;
+        is_step = take-steps script w 1 c frame rest after holds.shape h rule refl;
         holds = record {
           shape = changes.shape;
-          history = subst (λ j. HasHistory script j b.kernel b.places) (sym (changes.journal ∙ append-nil w.journal))
-              holds.history;
+          history = holds.history;
+          whole = whole-unmoved script w next [] [] Nothing b b.deed 1 after.node takes after.sends holds changes refl;
           leading = leading-now;
           pids = holds.pids;
           nodes = nodes-now;
@@ -752,6 +770,9 @@ module _ (script : Script) (w : World) (b : Beside) (holds : Holds script w [] b
               (call_sight next [] b y) more
               (call-left-alone script 1 w next after.node takes after.sends [] changes [] [] b b y (leaves-call y)
               (refl, tt) (refl, tt)) (holds.calls y low high);
+          cancels = λ y low high. cancel-unmoved script w next [] [] Nothing b b.deed 1 after.node takes after.sends
+              holds
+              changes names y low high (leaves-items y) (refl, tt) (refl, tt) (refl, tt) (refl, tt);
           ways = ways-now;
           parcels = parcels-now;
           kinds = λ kind. kind-stays (is_born_in w) (is_born_in next) _ _ more

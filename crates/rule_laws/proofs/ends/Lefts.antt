@@ -1,5 +1,5 @@
 -- A node has handed over all: the leader knows that it has left, and has its process's parcel in hand.
-use Rattle.std.proofs.Common.{◌≡◌, ◌≢◌, ℕ, ◌≤◌, Bool, true, false, ◌&&◌, cond, if◌then◌else◌, List, [], ◌∷◌, ◌++◌, filter, flat_map, not, nat_eq, None, is_none, is_some, Contains, refl, ap, sym, subst, ◌∙◌, inl, inr, arith, append-nil}
+use Rattle.std.proofs.Common.{◌≡◌, ◌≢◌, ℕ, ◌≤◌, Bool, true, false, ◌&&◌, cond, if◌then◌else◌, List, [], ◌∷◌, ◌++◌, filter, flat_map, not, nat_eq, None, is_none, is_some, Contains, refl, ap, sym, subst, ◌∙◌, inl, inr, arith}
 use Rattle.std.proofs.lemmas.Bool.{cases_eq, eq-eqb, eqb-true, ne_eqb, false≢true}
 use Rattle.std.proofs.lemmas.List.Elements.{Contains-push_cases}
 use Rattle.pico_base.specs.declared.numbers.Kind.{Kind}
@@ -14,7 +14,6 @@ use Rattle.number_maps.proofs.LookUps.{get-put-same, get-put-other}
 use Rattle.kernel_model.specs.Fitting.{Places}
 use Rattle.kernel_model.specs.Kernel.{Process}
 use Rattle.kernel_model.specs.Kernel as kernel
-use Rattle.entry_laws.specs.Entering.{HasHistory}
 use Rattle.node_model.specs.declared.held.Held.{Held}
 use Rattle.node_model.specs.declared.held.Held.TheVariants.{Ending}
 use Rattle.node_model.specs.Kinds.{is_object, get_named, for_kind}
@@ -33,12 +32,15 @@ use Rattle.world_laws.specs.Ways.{Way, way_sight, knows_parent, HandsOver, IsGon
 use Rattle.world_laws.specs.Ranges.{KeysHold}
 use Rattle.world_laws.specs.Families.{NodeHolds, FamilyHolds, IsWhereFor, IsWithParent, CheckpointIn, IsNewAt, IsAwaited, checkpoints_to}
 use Rattle.world_laws.specs.Invariant.{Holds, IsLeading, process_deed}
+use Rattle.world_laws.specs.Cancels.{Nothing}
+use Rattle.world_laws.proofs.Cancels.{is_item_of}
 use Rattle.world_laws.proofs.Stays.{IsMore, SameName, name-stays, node-born, call-stays, SameWay, way-stays, kind-stays}
 use Rattle.world_laws.proofs.Changes.{Changes, filter-is-list-map, flat_map-is-list-map, made-same, only-stayed, still-born, read-same}
 use Rattle.world_laws.proofs.LeftAlone.{DirectoryLeaves, name-left-alone, LeavesCall, call-left-alone, was-there, sender-stays, kind-left-alone, other-node-stays, frames-still-fit, few-still}
 use Rattle.world_laws.proofs.Steps.{Heads, world_without, changes-by-take}
 use Rattle.world_laws.proofs.Heads.{head-there, head-from-another, rest-stays, others-stay}
 use Rattle.rule_laws.proofs.Nodes.{node-with-directory}
+use Rattle.rule_laws.proofs.ends.Unmoved.{LeavesItems, cancel-unmoved, whole-unmoved}
 
 -- ---- where the deeds are
 
@@ -209,6 +211,8 @@ pub name-in-hand : (script : Script) (pids : ℕ → ℕ) (born : ℕ → Bool) 
     → NameHolds script pids born name (in_leaders_hand x c parcel)
 name-in-hand script pids born name x c parcel here_now h =
     record {
+      parts = h.parts;
+      callers = h.callers;
       made = (λ e. absurd (not-unmade e), λ u. absurd (was-used u));
       place_fits = ap (may_be_at (is_object name)) (sym here_now.deed_is) ∙ h.place_fits;
       tables = λ q. refl;
@@ -396,13 +400,14 @@ module _ (script : Script) (w : World) (b : Beside) (holds : Holds script w [] b
         (record {
           directory = leaves;
           used_is = refl;
+          part_is = refl;
           body_is = refl;
           deed_is = ap (λ t. if t then InHand c else b.deed name) (not-in-left (is_in_left c x.deed) refl);
           held_is = refl;
           begins_is = λ holds_it comes. refl;
           hand_is = ap (λ t. cond t hand []) e;
-          steps_are = λ q. refl;
-          ranges_are = λ q. refl;
+          steps_are = λ used q. refl;
+          ranges_are = λ used q. refl;
         }) (e, tt) tt) known
       where
         not-in-left : (t : Bool) → is_in_left c x.deed ≡ t → is_in_left c x.deed ≡ false
@@ -478,6 +483,7 @@ module _ (script : Script) (w : World) (b : Beside) (holds : Holds script w [] b
               maker = sym same.maker_is;
               stays = λ q. sym (same.stays_is q);
               used = refl;
+              part = refl;
               body = refl;
               deed = sym (ap (at_leader c) at.deed_is ∙ ap (λ t. if t then InHand c else InLeft c) (eq-eqb c c refl));
               held = held-none;
@@ -488,9 +494,10 @@ module _ (script : Script) (w : World) (b : Beside) (holds : Holds script w [] b
               hand = sym (ap (λ t. cond t hand []) e);
               begins = begins-now;
               steps = λ q. sym (made-same script 1 w middle after.node takes [] [] changes
-                  (λ t s fs. plays b.call name fs) (λ t s. flat_map-is-list-map _) (refl, tt) tt q 1);
+                  (λ t s fs. plays x.used b.call name fs) (λ t s. flat_map-is-list-map _) (refl, tt) tt q 1);
               ranges = λ q. sym (made-same script 1 w middle after.node takes [] [] changes
-                  (λ t s fs. flat_map (range_steps_of b.call name) fs) (λ t s. flat_map-is-list-map _) (refl, tt) tt
+                  (λ t s fs. flat_map (range_steps_of x.used b.call name) fs) (λ t s. flat_map-is-list-map _) (refl, tt)
+                  tt
                   q 1);
               placed = λ q. sym (made-same script 1 w middle after.node takes [] [] changes
                   (λ t s fs. placed_in name fs) (λ t s. flat_map-is-list-map _) (refl, tt) tt 1 q);
@@ -536,6 +543,16 @@ module _ (script : Script) (w : World) (b : Beside) (holds : Holds script w [] b
         call_is = refl;
         held_is = λ name. ap (λ z. filter (is_item_about y) (held_for z name)) directory-now;
         hand_is = refl;
+        waiters_are = λ name. refl;
+      }
+
+  leaves-items : (y : ℕ) → LeavesItems w middle [] hand 1 after.node y
+  leaves-items y =
+      record {
+        own = λ e. record { number = refl; pid = refl; stage = refl; caller = refl; leases = refl };
+        held_is = λ name. ap (λ z. filter (is_item_of y) (held_for z name)) directory-now;
+        hand_is = refl;
+        leaves = λ q e. stays-same q ∙ e;
       }
 
   -- ---- the ways
@@ -686,8 +703,8 @@ module _ (script : Script) (w : World) (b : Beside) (holds : Holds script w [] b
   left-in-hand =
       record {
         shape = changes.shape;
-        history = subst (λ j. HasHistory script j b.kernel b.places) (sym (changes.journal ∙ append-nil w.journal))
-            holds.history;
+        history = holds.history;
+        whole = whole-unmoved script w middle [] hand Nothing b deeds-now 1 after.node takes [] holds changes refl;
         leading = leading-now;
         pids = holds.pids;
         nodes = nodes-now;
@@ -697,6 +714,8 @@ module _ (script : Script) (w : World) (b : Beside) (holds : Holds script w [] b
             (call_sight middle hand moved y) more
             (call-left-alone script 1 w middle after.node takes [] [] changes [] hand b moved y (leaves-call y)
             (refl, tt) tt) (holds.calls y low high);
+        cancels = λ y low high. cancel-unmoved script w middle [] hand Nothing b deeds-now 1 after.node takes [] holds
+            changes names y low high (leaves-items y) (refl, tt) tt (refl, tt) tt;
         ways = ways-now;
         parcels = parcels-now;
         kinds = λ kind. kind-stays (is_born_in w) (is_born_in middle) _ _ more

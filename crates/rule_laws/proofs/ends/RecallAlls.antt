@@ -23,8 +23,10 @@ use Rattle.kernel_model.specs.Row.{Alive, Row}
 use Rattle.kernel_model.specs.Kernel.{Process}
 use Rattle.kernel_model.specs.Kernel as kernel
 use Rattle.kernel_model.specs.Transition.{may_make}
-use Rattle.entry_laws.specs.Entering.{HasRow, HasHistory}
+use Rattle.entry_laws.specs.Entering.{HasRow}
 use Rattle.entry_laws.proofs.Bodies.{body-living}
+use Rattle.waiting_model.specs.Calls.{waits_at}
+use Rattle.node_model.specs.declared.held.Held.{Held}
 use Rattle.node_model.specs.declared.held.Held.TheVariants.{Ending}
 use Rattle.node_model.specs.Kinds.{is_object, get_named, none_named, for_kind}
 use Rattle.node_model.specs.Directory.{Directory, Parting, place_of, maker, stays, is_known, held_for, is_parcel_with}
@@ -44,7 +46,9 @@ use Rattle.world_laws.specs.Callers.{CallSight, CallHolds, call_sight, HasCall, 
 use Rattle.world_laws.specs.Ways.{Way, way_sight, knows_parent, Shows, IsCollected, HandsOver, here, tells, collected, over, gone, is_leaving_frame, is_recall_all, is_left_frame, IsParcelOf, IsParcelIn, left as left_in, sent as sent_in, kept as kept_in, at_hand, under_way_of, HasSender}
 use Rattle.world_laws.specs.Ranges.{KeysHold, lease_in}
 use Rattle.world_laws.specs.Families.{NodeHolds, HoldsIn, HoldsRow, BornIn, IsBorn, FamilyHolds, CheckpointIn, IsAwaited, checkpoints_to}
-use Rattle.world_laws.specs.Invariant.{Holds, IsLeading, MayBe, process_deed}
+use Rattle.world_laws.specs.Cancels.{CancelIf, Nothing, Owing, cancel_sight, is_cancel_of, is_held_cancel_of, is_of_call, is_held_of_call}
+use Rattle.world_laws.specs.Invariant.{Holds, HoldsOwing, IsLeading, MayBe, process_deed}
+use Rattle.world_laws.proofs.Cancels.{SameCancel, is_item_of}
 use Rattle.world_laws.proofs.Stays.{IsMore, SameName, name-stays, SameCall, call-stays, SameWay, way-stays, kind-stays}
 use Rattle.world_laws.proofs.Sends.{IsToNode}
 use Rattle.world_laws.proofs.Changes.{Changes, sent, filter-is-list-map, flat_map-is-list-map, made-after, made-same, only-stayed, stayed, directory-same, still-born}
@@ -52,6 +56,9 @@ use Rattle.world_laws.proofs.LeftAlone.{LeavesCall, call-left-alone, was-there, 
 use Rattle.world_laws.proofs.Steps.{KeepsAs, Heads, world_without, take-steps, changes-by-take}
 use Rattle.world_laws.proofs.NameFacts.{held-elsewhere, IsHeldAt, held-there}
 use Rattle.world_laws.proofs.Heads.{head-is, head-may-be, head-from-another, rest-stays, others-stay}
+use Rattle.rule_laws.proofs.CallMoves.{cancel-if-same}
+use Rattle.rule_laws.proofs.own.Bodies.{process-body-is}
+use Rattle.rule_laws.proofs.ends.Unmoved.{LeavesItems, cancel-unmoved, whole-unmoved}
 use Rattle.rule_laws.proofs.ends.Given.{AreRising, to_leader, fold-sends, kept-of-all-sent, all-given, frame_of, gives-name, gives-left, packed-there, all-of-map}
 use Rattle.rule_laws.proofs.ends.Handed.{handed_to, is_in_table, handed, in-table-is, not-in-table, left_by, name-left-by, handed_over, name-handed-over, brings-handed, where-handed, parent-handed, checkpoint-handed, fresh-handed, awaited-handed, not-awaited}
 
@@ -132,6 +139,14 @@ over-or-own k (Some (kernel.Living alive)) pid own = ap (λ t. t || false) (eq-e
 over-or-own k (Some (kernel.Ended ending)) pid own = or-true (nat_eq k pid)
 over-or-own k (Some kernel.Gone) pid own = or-true (nat_eq k pid)
 
+-- a process's body is the kernel's part
+pub process-part : (script : Script) (w : World) (hand : List Held) {owes : Owing} (b : Beside)
+    → HoldsOwing script w hand owes b → (k : ℕ) → b.body (Proc k) ≡ body_in b.kernel (Proc k)
+process-part script w hand b holds k =
+    let known : NameHolds script b.pids (is_born_in w) (Proc k) (name_sight script w hand b (Proc k)) =
+    holds.names (Proc k)
+    in process-body-is b.kernel (b.body (Proc k)) k known.parts
+
 nothing-at : (m : Name) → get_named {V = Body} none_named m ≡ None
 nothing-at (Proc k) = refl
 nothing-at m = refl
@@ -203,16 +218,17 @@ module _ (script : Script) (w : World) (b : Beside) (holds : Holds script w [] b
       (subst (λ z. may_be_in z (home_of n.pid call) call ≡ true) ends.place has.home)
 
   table-of : (name : Name) (body : Body) → get_named n.deeds name ≡ Some body
-      → IsHeldAt (b.deed name) (body_in b.kernel name) p body
+      → IsHeldAt (b.deed name) (b.body name) p body
   table-of name body there =
       let known : NameHolds script b.pids (is_born_in w) name (name_sight script w [] b name) = holds.names name
-      in held-there (b.deed name) (body_in b.kernel name) p body (sym (known.tables p) ∙ there)
+      in held-there (b.deed name) (b.body name) p body (sym (known.tables p) ∙ there)
 
   own-row : HasRow b.kernel (b.pids p) row-here.row
   own-row =
       let at = table-of (Proc n.pid) (LivingBody row-here.row) row-here.here
       in subst (λ q. HasRow b.kernel q row-here.row) birth.pid_is
-      (body-living b.kernel n.pid row-here.row (sym at.body_is))
+      (body-living b.kernel n.pid row-here.row
+      (sym (process-part script w [] b holds n.pid) ∙ sym at.body_is))
 
   so-far : IsToBeMade script p (y-of p) call ⊎ HasEnded (y-of p)
   so-far =
@@ -250,7 +266,7 @@ module _ (script : Script) (w : World) (b : Beside) (holds : Holds script w [] b
   sends = to_leader gives
 
   abbrev after : Step
-  after = record { node = empty; entries = []; sends = sends }
+  after = record { node = empty; entries = []; sends = sends; strikes = false }
 
   rule : take_recall_all n 1 ≡ Some after
   rule =
@@ -305,30 +321,30 @@ module _ (script : Script) (w : World) (b : Beside) (holds : Holds script w [] b
     known = holds.names name
 
     abbrev rest-steps : List PlayStep
-    rest-steps = plays b.call name (changes.left p 1)
+    rest-steps = plays x.used b.call name (changes.left p 1)
 
     steps-were : x.steps p ≡ AllGo ∷ rest-steps
     steps-were =
         rest-stays script p 1 w next empty frames.RecallAll sends [] changes
-        (λ t s fs. plays b.call name fs) (λ t s. flat_map-is-list-map _)
+        (λ t s fs. plays x.used b.call name fs) (λ t s. flat_map-is-list-map _)
 
-    only-plays : (q : ℕ) → plays b.call name (frames_to next q 1) ≡ plays b.call name (changes.left q 1)
+    only-plays : (q : ℕ) → plays x.used b.call name (frames_to next q 1) ≡ plays x.used b.call name (changes.left q 1)
     only-plays q =
         only-stayed script p w next empty takes sends [] changes
-        (λ t s fs. plays b.call name fs) (λ t s. flat_map-is-list-map _)
-        (each-sent (λ s. plays b.call name (s.1 ∷ []) ≡ []) (λ deed. refl) refl) q 1
+        (λ t s fs. plays x.used b.call name fs) (λ t s. flat_map-is-list-map _)
+        (each-sent (λ s. plays x.used b.call name (s.1 ∷ []) ≡ []) (λ deed. refl) refl) q 1
 
-    steps-now : (q : ℕ) → (if nat_eq q p then rest-steps else x.steps q) ≡ plays b.call name (frames_to next q 1)
+    steps-now : (q : ℕ) → (if nat_eq q p then rest-steps else x.steps q) ≡ plays x.used b.call name (frames_to next q 1)
     steps-now q =
         elim (cases_eq q p) [
           | inl e ↦
               ap (λ t. if t then rest-steps else x.steps q) (eq-eqb q p e)
-              ∙ subst (λ y. rest-steps ≡ plays b.call name (frames_to next y 1)) (sym e) (sym (only-plays p))
+              ∙ subst (λ y. rest-steps ≡ plays x.used b.call name (frames_to next y 1)) (sym e) (sym (only-plays p))
           | inr d ↦
               ap (λ t. if t then rest-steps else x.steps q) (ne_eqb q p d)
               ∙ sym (only-plays q
               ∙ others-stay script p 1 w next empty frames.RecallAll sends [] changes
-              (λ t s fs. plays b.call name fs) (λ t s. flat_map-is-list-map _) q 1 (inl d))
+              (λ t s fs. plays x.used b.call name fs) (λ t s. flat_map-is-list-map _) q 1 (inl d))
         ]
 
     comes-now : (q : ℕ) → comes_to script next name q ≡ comes_to script w name q
@@ -376,11 +392,11 @@ module _ (script : Script) (w : World) (b : Beside) (holds : Holds script w [] b
         (λ t s fs. filter (brings name) fs) (λ t s. filter-is-list-map (brings name)) (refl, tt) to sender)
         ∙ ap (λ fs. x.brought to sender ++ fs) (kept-of-all-sent (brings name) p gives to sender)
 
-    ranges-now : (q : ℕ) → x.ranges q ≡ flat_map (range_steps_of b.call name) (frames_to next q 1)
+    ranges-now : (q : ℕ) → x.ranges q ≡ flat_map (range_steps_of x.used b.call name) (frames_to next q 1)
     ranges-now q =
         sym (made-same script p w next empty takes sends [] changes
-        (λ t s fs. flat_map (range_steps_of b.call name) fs) (λ t s. flat_map-is-list-map _) (refl, tt)
-        (each-sent (λ s. flat_map (range_steps_of b.call name) (s.1 ∷ []) ≡ []) (λ deed. refl) refl) q 1)
+        (λ t s fs. flat_map (range_steps_of x.used b.call name) fs) (λ t s. flat_map-is-list-map _) (refl, tt)
+        (each-sent (λ s. flat_map (range_steps_of x.used b.call name) (s.1 ∷ []) ≡ []) (λ deed. refl) refl) q 1)
 
     placed-now : (q : ℕ) → x.placed q ≡ placed_in name (frames_to next 1 q)
     placed-now q =
@@ -434,6 +450,7 @@ module _ (script : Script) (w : World) (b : Beside) (holds : Holds script w [] b
               maker = ap (λ y. maker y name) (sym same-there);
               stays = λ q. ap (λ y. stays y q) (sym same-there);
               used = refl;
+              part = refl;
               body = refl;
               deed = sym (ap (λ t. if t then handed_to p (is_object name) else x.deed) away);
               held = held-same;
@@ -505,6 +522,7 @@ module _ (script : Script) (w : World) (b : Beside) (holds : Holds script w [] b
               maker = ap (λ y. maker y name) (sym same-there);
               stays = λ q. ap (λ y. stays y q) (sym same-there);
               used = refl;
+              part = refl;
               body = refl;
               deed = sym (ap (λ t. if t then handed_to p (is_object name) else x.deed) at);
               held = none-held;
@@ -590,12 +608,14 @@ module _ (script : Script) (w : World) (b : Beside) (holds : Holds script w [] b
               in_streams = there.in_streams;
               held_for_names = there.held_for_names;
               in_hand = there.in_hand;
+              waiting = there.waiting;
             };
             home = old.home;
             used_up = old.used_up;
             between = old.between;
             so_far = subst (λ z. IsSoFar script p leaves-with call z) (sym ends.place) (inl made-still);
             at_work = refl;
+            started = old.started;
             tickets = old.tickets;
             try_left = old.try_left;
           }
@@ -616,6 +636,7 @@ module _ (script : Script) (w : World) (b : Beside) (holds : Holds script w [] b
             (each-sent (λ s. filter (is_about p s.0 p) (s.1 ∷ []) ≡ []) (λ deed. refl) refl) to sender);
         held = λ m. ap (λ z. filter (is_item_about p) (held_for z m)) (sym same-there);
         hand = refl;
+        waiters = λ m. refl;
       }
 
   leaves-call : (y : ℕ) → y ≢ p → LeavesCall w next [] [] b moved p empty y
@@ -627,6 +648,7 @@ module _ (script : Script) (w : World) (b : Beside) (holds : Holds script w [] b
         call_is = refl;
         held_is = λ m. ap (λ z. filter (is_item_about y) (held_for z m)) same-there;
         hand_is = refl;
+        waiters_are = λ m. refl;
       }
 
   calls-now : (y : ℕ) → 1 ≤ y → y ≤ node_count script
@@ -640,6 +662,67 @@ module _ (script : Script) (w : World) (b : Beside) (holds : Holds script w [] b
             call-stays script y (is_born_in w) (is_born_in next) _ _ more
             (call-left-alone script p w next empty takes sends [] changes [] [] b moved y (leaves-call y d)
             (refl, tt) (each-sent (λ s. is_about y s.0 p s.1 ≡ false) (λ deed. refl) refl)) (holds.calls y low high)
+      ]
+
+  -- ---- the withdrawals
+
+  abbrev ticket : ℕ
+  ticket = n.caller.ticket
+
+  ticket-same : (node_of next p).caller.ticket ≡ ticket
+  ticket-same = ap (λ (m : Node). m.caller.ticket) changes.here
+
+  cancel-sight-now : SameCancel (cancel_sight w [] b p) (cancel_sight next [] moved p)
+  cancel-sight-now =
+      record {
+        number = sym (ap (λ (m : Node). m.number) changes.here);
+        pid = sym (ap (λ (m : Node). m.pid) changes.here);
+        caller = sym (ap (λ (m : Node). m.caller) changes.here);
+        call = refl;
+        cancel = refl;
+        cancels = λ to sender. sym (made-same script p w next empty takes sends [] changes
+            (λ t s fs. filter (is_cancel_of p) fs) (λ t s. filter-is-list-map (is_cancel_of p)) (refl, tt)
+            (each-sent (λ s. filter (is_cancel_of p) (s.1 ∷ []) ≡ []) (λ deed. refl) refl) to sender);
+        held_cancels = λ m. ap (λ z. filter (is_held_cancel_of p) (held_for z m)) (sym same-there);
+        hand_cancels = refl;
+        of_call = λ to sender.
+            sym (ap (λ k. filter (is_of_call p k to sender) (frames_to next to sender)) ticket-same
+            ∙ made-same script p w next empty takes sends [] changes
+            (λ t s fs. filter (is_of_call p ticket t s) fs) (λ t s. filter-is-list-map (is_of_call p ticket t s))
+            (refl, tt)
+            (each-sent (λ s. filter (is_of_call p ticket s.0 p) (s.1 ∷ []) ≡ []) (λ deed. refl) refl) to sender);
+        held_of_call = λ m.
+            sym (ap (λ k. filter (is_held_of_call p k) (held_for (directory_of next) m)) ticket-same
+            ∙ ap (λ z. filter (is_held_of_call p ticket) (held_for z m)) same-there);
+        hand_of_call = refl;
+        nowhere = λ asked is may at. record {
+          node = at.node;
+          is = at.is;
+          leaves = ap (λ z. stays z at.node) same-there ∙ at.leaves;
+          unknown = ap (λ z. is_known z (waits_at n.pid asked)) same-there ∙ at.unknown;
+        };
+      }
+
+  leaves-items : (y : ℕ) → y ≢ p → LeavesItems w next [] [] p empty y
+  leaves-items y d =
+      record {
+        own = λ e. absurd (d e);
+        held_is = λ m. ap (λ z. filter (is_item_of y) (held_for z m)) same-there;
+        hand_is = refl;
+        leaves = λ q e. ap (λ z. stays z q) same-there ∙ e;
+      }
+
+  cancels-now : (y : ℕ) → 1 ≤ y → y ≤ node_count script → CancelIf y Nothing (cancel_sight next [] moved y)
+  cancels-now y low high =
+      elim (cases_eq y p) [
+        | inl e ↦
+            subst (λ z. CancelIf z Nothing (cancel_sight next [] moved z)) (sym e)
+            (cancel-if-same p Nothing (cancel_sight w [] b p) (cancel_sight next [] moved p) refl cancel-sight-now
+            (holds.cancels p h.low h.high))
+        | inr d ↦
+            cancel-unmoved script w next [] [] Nothing b deeds-now p empty takes sends holds changes names y low high
+            (leaves-items y d) (refl, tt) (each-sent (λ s. is_about y s.0 p s.1 ≡ false) (λ deed. refl) refl)
+            (refl, tt) (each-sent (λ s. is_cancel_of y s.1 ≡ false) (λ deed. refl) refl)
       ]
 
   -- ---- the ways
@@ -731,9 +814,10 @@ module _ (script : Script) (w : World) (b : Beside) (holds : Holds script w [] b
       all-of-map (λ (e : ℕ × Body). is_over_but_for (b.pids p) e ≡ true) n.deeds.processes rises.processes
       (λ k body there.
       let at = table-of (Proc k) body there
-      in subst (λ (v : Body). is_over_but_for (b.pids p) (k, v) ≡ true) (sym at.body_is)
+      in let is : body ≡ body_in b.kernel (Proc k) = at.body_is ∙ process-part script w [] b holds k
+      in subst (λ (v : Body). is_over_but_for (b.pids p) (k, v) ≡ true) (sym is)
       (over-or-own k (get b.kernel.processes k) (b.pids p)
-      (λ row e. node-holds.rows k row (there ∙ ap Some (at.body_is ∙ e)) ∙ birth.pid_is)))
+      (λ row e. node-holds.rows k row (there ∙ ap Some (is ∙ e)) ∙ birth.pid_is)))
 
   its-parcel : IsParcelOf script b.pids p call parcel
   its-parcel =
@@ -861,11 +945,11 @@ module _ (script : Script) (w : World) (b : Beside) (holds : Holds script w [] b
   recall-all-keeps =
       record {
         next = next;
-        is_step = take-steps script w p 1 frames.RecallAll rest after holds.shape h rule;
+        is_step = take-steps script w p 1 frames.RecallAll rest after holds.shape h rule refl;
         holds = record {
           shape = changes.shape;
-          history = subst (λ j. HasHistory script j b.kernel b.places) (sym (changes.journal ∙ append-nil w.journal))
-              holds.history;
+          history = holds.history;
+          whole = whole-unmoved script w next [] [] Nothing b deeds-now p empty takes sends holds changes refl;
           leading = subst (λ (z : Directory). IsLeading z) (sym same-there) holds.leading;
           pids = holds.pids;
           nodes = nodes-now;
@@ -874,6 +958,7 @@ module _ (script : Script) (w : World) (b : Beside) (holds : Holds script w [] b
               (each-sent (λ s. s.0 ≢ p) (λ deed e. other (sym e)) (λ e. other (sym e)));
           names = names;
           calls = calls-now;
+          cancels = cancels-now;
           ways = ways-now;
           parcels = parcels-now;
           kinds = λ kind. kind-stays (is_born_in w) (is_born_in next) _ _ more

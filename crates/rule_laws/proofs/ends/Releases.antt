@@ -43,11 +43,12 @@ use Rattle.world_laws.specs.Deeds.{DeedsAreRead}
 use Rattle.world_laws.specs.Ranges.{kind_sight}
 use Rattle.world_laws.proofs.Numbers.{zero-is-unused}
 use Rattle.pico_base.specs.Home.{home_of}
-use Rattle.world_laws.proofs.Steps.{Heads, world_without, take-steps}
+use Rattle.world_model.specs.Strikes.{strike}
+use Rattle.world_laws.proofs.Steps.{Heads, world_without, struck-steps}
 use Rattle.world_laws.proofs.Heads.{head-there}
 use Rattle.rule_laws.proofs.ends.Directories.{KnowsNodes}
 use Rattle.rule_laws.proofs.ends.Given.{all-of-map, packed-has}
-use Rattle.rule_laws.proofs.ends.RecallAlls.{EndsBy, ends-by, ends-by-end, end-is-allowed, over-or-own}
+use Rattle.rule_laws.proofs.ends.RecallAlls.{EndsBy, ends-by, ends-by-end, end-is-allowed, over-or-own, process-part}
 use Rattle.rule_laws.proofs.ends.Leavings.{IsToldOf, told-first}
 use Rattle.rule_laws.proofs.ends.Lefts.{IsBroughtHere, is-brought, way-was}
 use Rattle.rule_laws.proofs.ends.Taken.{any-none, none-kept, fewer-none, packed-same, each_with, read-packed, each-gets, each-rises, each-passes, names-pass, play-without, plays-without, begin-without}
@@ -98,7 +99,7 @@ module _ (script : Script) (w : World) (b : Beside) (holds : Holds script w [] b
       in let d : q ≢ 1 = λ e. omega (arith, e, low)
       in false≢true
       (sym (play-without (x.begins q) played.last (x.steps q)
-      (plays-without b.call name (frames_to w q 1) (none-brought q 1 d))
+      (plays-without x.used b.call name (frames_to w q 1) (none-brought q 1 d))
       (ap (λ o. is_has (begin (stage_of w q) (is_some o) (comes_to script w name q))) (none-held q)
       ∙ ap (λ t. is_has (begin (stage_of w q) false t)) (comes-not q d)
       ∙ begin-without (stage_of w q))
@@ -174,7 +175,7 @@ module _ (script : Script) (w : World) (b : Beside) (holds : Holds script w [] b
 -- ---- the rule of a Left
 
 module _ (script : Script) (w : World) (b : Beside) (holds : Holds script w [] b)
-    (at_nodes : KnowsNodes (directory_of w)) (reads : DeedsAreRead b.kernel) (c : ℕ) (parcel : Parcel)
+    (at_nodes : KnowsNodes (directory_of w)) (reads : DeedsAreRead b.kernel b.body) (c : ℕ) (parcel : Parcel)
     (rest : List Frame) (h : Heads script w 1 c (frames.Left parcel) rest) where
   abbrev n : Node
   n = node_of w 1
@@ -201,12 +202,17 @@ module _ (script : Script) (w : World) (b : Beside) (holds : Holds script w [] b
 
   -- each deed of the parcel
 
+  -- nobody waits at a process's body
+  part-is : (k : ℕ) → b.body (Proc k) ≡ part k
+  part-is k = process-part script w [] b holds k
+
   brought : (k : ℕ) (v : Body) → get bodies k ≡ Some v
       → IsBroughtHere b.pids (Proc k) (part k) (b.deed (Proc k)) c parcel
   brought k v there =
-      is-brought script w b holds c parcel rest h (Proc k)
+      subst (λ v. IsBroughtHere b.pids (Proc k) v (b.deed (Proc k)) c parcel) (part-is k)
+      (is-brought script w b holds c parcel rest h (Proc k)
       (ap (λ ds. list_any (λ deed. is_same_name (Proc k) deed.name) ds) its.packed
-      ∙ packed-has k bodies ∙ ap is_some there)
+      ∙ packed-has k bodies ∙ ap is_some there))
 
   read-there : (k : ℕ) (v : Body) → get bodies k ≡ Some v → read_deed (pack (Proc k) v) ≡ Some (part k)
   read-there k v there =
@@ -215,7 +221,8 @@ module _ (script : Script) (w : World) (b : Beside) (holds : Holds script w [] b
       in ap read_deed
       (packed-same k v (part k) bodies its.ordered there
       (subst (λ ds. Contains ds (pack (Proc k) (part k))) its.packed has.there))
-      ∙ reads (Proc k) (on-its-way-is-used script w b holds at_nodes (Proc k) c at.deed_is)
+      ∙ subst (λ v. read_deed (pack (Proc k) v) ≡ Some v) (part-is k)
+      (reads (Proc k) (on-its-way-is-used script w b holds at_nodes (Proc k) c at.deed_is))
 
   all-read : read_deeds parcel.deeds ≡ Some (each_with part bodies)
   all-read =
@@ -420,8 +427,8 @@ module _ (script : Script) (w : World) (b : Beside) (holds : Holds script w [] b
       else None) taken-true
       ∙ ap (option_and_then (end_released script n c parcel)) parcel-fits
 
-  -- What the release comes to is the world's step.
+  -- What the release comes to is the world's step, with the strike last.
   pub left-steps : (s : Step)
       → release script (Ending parcel ∷ []) (step_to (with_directory n (with_left d c))) ≡ Some s
-      → step_by_rules w (events.Take 1 c) ≡ Some (world_after (world_without w 1 c rest) 1 s)
-  left-steps s e = take-steps script w 1 c (frames.Left parcel) rest s holds.shape h (left-releases ∙ e)
+      → step_by_rules w (events.Take 1 c) ≡ Some (world_after (world_without w 1 c rest) 1 (strike script s))
+  left-steps s e = struck-steps script w 1 c (frames.Left parcel) rest s holds.shape h (left-releases ∙ e)

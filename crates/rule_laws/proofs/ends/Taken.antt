@@ -208,20 +208,21 @@ none-comes-if : (t : Bool) (s : PlayStep) → is_comes s ≡ false → AllByRecu
 none-comes-if true s h = (h, tt)
 none-comes-if false s h = tt
 
-steps-without : (call : ℕ → CallPlace) (name : Name) (frame : Frame) → brings name frame ≡ false
-    → AllByRecursion (λ s. is_comes s ≡ false) (steps_of call name frame)
-steps-without call name (frames.Grant deed) h =
+steps-without : (used : Bool) (call : ℕ → CallPlace) (name : Name) (frame : Frame) → brings name frame ≡ false
+    → AllByRecursion (λ s. is_comes s ≡ false) (steps_of used call name frame)
+steps-without used call name (frames.Grant deed) h =
     subst (λ t. AllByRecursion (λ s. is_comes s ≡ false) (steps_if t Comes)) (sym h) tt
-steps-without call name (frames.Checkpoint pid parent deed vars) h =
+steps-without used call name (frames.Checkpoint pid parent deed vars) h =
     subst (λ t. AllByRecursion (λ s. is_comes s ≡ false) (steps_if t Comes)) (sym h) tt
-steps-without call name (frames.ExitTo parcel) h =
+steps-without used call name (frames.ExitTo parcel) h =
     subst (λ t. AllByRecursion (λ s. is_comes s ≡ false) (if t then Comes ∷ [] else steps_if (is_same_name name
     (Proc parcel.parent)) IsNeeded))
     (sym h) (none-comes-if (is_same_name name (Proc parcel.parent)) IsNeeded refl)
-steps-without call name (frames.Recall other) h = none-comes-if _ Goes refl
-steps-without call name frames.RecallAll h = (refl, tt)
-steps-without call name (frames.Forward asked) h = none-comes-if _ IsNeeded refl
-steps-without call name frame h = tt
+steps-without used call name (frames.Recall other) h = none-comes-if _ Goes refl
+steps-without used call name frames.RecallAll h = (refl, tt)
+steps-without used call name (frames.Forward asked) h = none-comes-if _ IsNeeded refl
+steps-without used call name (frames.Cancel asked) h = none-comes-if _ IsNeeded refl
+steps-without used call name frame h = tt
 
 -- what holds of all of both
 pub both-all : {A : Type 0} (P : A → Type 0) (xs ys : List A) → AllByRecursion P xs → AllByRecursion P ys
@@ -230,13 +231,13 @@ both-all P [] ys a b = b
 both-all P (x ∷ xs) ys a b = (a.0, both-all P xs ys a.1 b)
 
 -- where no frame brings it none comes
-pub plays-without : (call : ℕ → CallPlace) (name : Name) (fs : List Frame) → filter (brings name) fs ≡ []
-    → AllByRecursion (λ s. is_comes s ≡ false) (plays call name fs)
-plays-without call name [] h = tt
-plays-without call name (f ∷ fs) h =
+pub plays-without : (used : Bool) (call : ℕ → CallPlace) (name : Name) (fs : List Frame) → filter (brings name) fs ≡ []
+    → AllByRecursion (λ s. is_comes s ≡ false) (plays used call name fs)
+plays-without used call name [] h = tt
+plays-without used call name (f ∷ fs) h =
     let drops : DropsFirst (brings name) f fs = drops-first (brings name) f fs h
-    in both-all (λ s. is_comes s ≡ false) (steps_of call name f) (plays call name fs)
-    (steps-without call name f drops.first) (plays-without call name fs drops.rest)
+    in both-all (λ s. is_comes s ≡ false) (steps_of used call name f) (plays used call name fs)
+    (steps-without used call name f drops.first) (plays-without used call name fs drops.rest)
 
 -- a node without it begins without it
 pub begin-without : (stage : Stage) → is_has (begin stage false false) ≡ false

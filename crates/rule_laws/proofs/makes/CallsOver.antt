@@ -23,6 +23,7 @@ pub carried-here : (script : Script) (step : Step) (call : Call) (reply : Reply)
       node = record step.node { caller = answer_call script step.node.number step.node.caller call reply };
       entries = step.entries ++ entry_by step.node.number step.node.pid call reply ∷ [];
       sends = step.sends;
+      strikes = step.strikes;
     }
 carried-here script step call reply under_way =
     ap (λ t. if t
@@ -44,7 +45,7 @@ module _ (script : Script) (tries : HasTries script) (p : ℕ) (born : ℕ → B
     (call : Call) (reply : Reply) (alive : Alive) (is_due : IsDue (caller_place script p caller) call)
     (tickets : caller.ticket ≤ tries_made script p caller + 1) (left : HasTryLeft script p caller)
     (caller_is : y.caller ≡ answer_call script p caller call reply) where
-  is-answered : IsAnswered script p caller call reply (answer_call script p caller call reply)
+  pub is-answered : IsAnswered script p caller call reply (answer_call script p caller call reply)
   is-answered =
       let line = due-at-line script p caller call is_due
       in answered script p tries caller call reply line.0 line.1 left

@@ -17,9 +17,9 @@ use Rattle.world_model.specs.Node.{Node, is_leader}
 use Rattle.world_model.specs.Numbers.{tell_place}
 use Rattle.world_model.specs.Step.{Step, send, with_directory, with_node}
 use Rattle.world_model.specs.World.{World}
-use Rattle.world_laws.specs.Callers.{is_item_about}
 use Rattle.world_laws.specs.Invariant.{IsLeading}
 use Rattle.world_laws.specs.Sights.{directory_of, node_of}
+use Rattle.world_laws.proofs.Cancels.{is_item_of}
 use Rattle.world_laws.proofs.Changes.{Changes, directory-same}
 use Rattle.rule_laws.proofs.CallMoves.{SameButCall}
 use Rattle.rule_laws.proofs.Places.{place-with-other, place-with-same, with-place-keeps}
@@ -47,6 +47,7 @@ pub tell-is : (step : Step) (name : Name) (at : ℕ) (t : Bool) → is_leader st
       entries = step.entries;
       sends =
           step.sends ++ tells_if t name at;
+      strikes = step.strikes;
     }
 tell-is step name at true e =
     ap (λ u. if u then with_node step (with_directory step.node (place_name step.node.leader.directory name at))
@@ -55,6 +56,7 @@ tell-is step name at true e =
       node = with_directory step.node (place_name step.node.leader.directory name at);
       entries = step.entries;
       sends = sends;
+      strikes = step.strikes;
     }) (sym (append-nil step.sends))
 tell-is step name at false e =
     ap (λ u. if u then with_node step (with_directory step.node (place_name step.node.leader.directory name at))
@@ -146,7 +148,7 @@ moves-none x d mid d' name place a =
     record {
       partings_are = a.partings;
       known_still = a.known_still;
-      held_of_others = λ y other m. ap (filter (is_item_about y)) (a.held m);
+      held_of_others = λ y other m. ap (filter (is_item_of y)) (a.held m);
       parcels_were = λ pid parcel there. subst (λ items. Contains items (Ending parcel)) (a.held (Proc pid)) there;
       leads = a.leads;
     }

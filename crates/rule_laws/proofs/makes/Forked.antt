@@ -37,6 +37,7 @@ use Rattle.world_laws.specs.Sights.{is_born_in, node_of}
 use Rattle.world_laws.specs.Names.{NameHolds, forker, held_as, name_sight}
 use Rattle.world_laws.specs.Invariant.{Holds}
 use Rattle.world_laws.proofs.NameFacts.{held-here}
+use Rattle.rule_laws.proofs.own.Bodies.{process-body-is}
 use Rattle.rule_laws.proofs.makes.ForkKin.{ForkLeaves}
 use Rattle.rule_laws.proofs.makes.Forkers.{IsForkedFrom, first-not-forked, forked-from, names_in_line, same-lines, same-test}
 use Rattle.rule_laws.proofs.makes.Sources.{Origin, Source}
@@ -71,9 +72,10 @@ module _ (script : Script) (sound : IsSoundScript script) (w : World) (b : Besid
   own-row =
       let name : NameHolds script b.pids (is_born_in w) (Proc pid) (name_sight script w [] b (Proc pid)) =
       holds.names (Proc pid)
-      in same-in-some (body_in k (Proc pid)) (LivingBody s.row)
-      (sym (name.tables p ∙ ap (λ (d : DeedPlace). held_as d (body_in k (Proc pid)) p) s.deed
-      ∙ held-here p (body_in k (Proc pid)))
+      in sym (process-body-is k (b.body (Proc pid)) pid name.parts)
+      ∙ same-in-some (b.body (Proc pid)) (LivingBody s.row)
+      (sym (name.tables p ∙ ap (λ (d : DeedPlace). held_as d (b.body (Proc pid)) p) s.deed
+      ∙ held-here p (b.body (Proc pid)))
       ∙ ap (λ (q : ℕ). get_named n.deeds (Proc q)) (sym s.birth.pid_is) ∙ s.has_row)
     where
       same-in-some : (a c : Body) → Some a ≡ Some c → a ≡ c

@@ -30,10 +30,10 @@ use Rattle.kernel_laws.proofs.People.{from-living}
 use Rattle.kernel_laws.proofs.ValidLaws.{reachable_kernels_are_valid_lemma}
 use Rattle.entry_laws.specs.Entering.{is_used_name}
 use Rattle.entry_laws.proofs.Bodies.{body-living}
-use Rattle.entry_laws.proofs.History.{may-make-from}
+use Rattle.entry_laws.proofs.History.{history-reachable, may-make-from}
 use Rattle.entry_laws.proofs.Numbers.{process-there}
 use Rattle.node_model.specs.declared.held.Held.TheVariants.{Request}
-use Rattle.node_model.specs.Bodies.{Body, Living as LivingBody, body_in}
+use Rattle.node_model.specs.Bodies.{Body, Living as LivingBody}
 use Rattle.node_model.specs.Directory.{max_ranges}
 use Rattle.node_model.specs.Kinds.{for_kind, get_named, name_of, number_of}
 use Rattle.node_model.specs.Leases.{is_used_up, lease_of, refill, takes_number}
@@ -42,9 +42,13 @@ use Rattle.world_model.specs.Numbers.{make, make_taken, make_with, take_from}
 use Rattle.world_model.specs.Ranges.{go_on_with, is_listed_here, is_there, lists_child, may_lease, take_lease}
 use Rattle.world_model.specs.Step.{Step, step_to}
 use Rattle.world_model.specs.World.{World, node_count, numbers as numbers_from, world_after}
-use Rattle.world_laws.specs.Places.{AsksLease, Beside, CallPlace, Ends, HasLease, Idle, InAnswer, InAsk, InBounce, InNotOwner, InRequest, IsHeld, IsInHand, SentByPlace, SentByRange, call_in}
+use Rattle.world_laws.specs.Places.{AsksLease, Beside, CallPlace, Ends, HasLease, Idle, InAnswer, InAsk, InBounce, InNotOwner, InRequest, IsHeld, IsInHand, Parked, SentByPlace, SentByRange, Waits, call_in}
 use Rattle.world_laws.specs.Sights.{directory_of, frames_to, is_born_in, node_of}
-use Rattle.world_laws.specs.Callers.{CallHolds, CallSight, HasCall, IsBetween, IsJustThere, IsSoFar, IsToBeMade, asked_of, call_sight, frame_at, is_about, is_at_work, is_call_of_kind, is_end_place, is_end_stage, is_held_at, is_in_stream, lease_is_over, may_be_in, only_if}
+use Rattle.node_model.specs.Serving.{waiting_as}
+use Rattle.world_laws.specs.Cancels.{Nothing, cancel_sight}
+use Rattle.world_laws.specs.Wholes.{HasMarks, HasWhole}
+use Rattle.world_laws.proofs.Following.{never-cancelled}
+use Rattle.world_laws.specs.Callers.{CallHolds, CallSight, HasCall, IsBetween, IsJustThere, IsSoFar, IsToBeMade, asked_of, call_sight, frame_at, is_about, is_at_work, is_call_of_kind, is_end_place, is_end_stage, is_held_at, is_in_stream, is_waiting_at, lease_is_over, may_be_in, only_if}
 use Rattle.world_laws.specs.Families.{BornIn, HoldsIn, HoldsRow, IsBorn, NodeHolds}
 use Rattle.world_laws.specs.Invariant.{Holds}
 use Rattle.world_laws.specs.Names.{NameHolds, name_sight}
@@ -62,6 +66,8 @@ use Rattle.rule_laws.proofs.own.Made.{number-is-low}
 use Rattle.rule_laws.proofs.own.Objects.{for-with, kind-itself}
 use Rattle.rule_laws.proofs.makes.FromNext.{kind-of-name, none-passes, number-of-name, with-with}
 use Rattle.rule_laws.proofs.makes.Making.{HasSize, Making, making-of, making-takes}
+use Rattle.rule_laws.proofs.own.Bodies.{process-body-is}
+use Rattle.rule_laws.proofs.makes.Numbered.{numbered-not-withdrawn}
 use Rattle.rule_laws.proofs.makes.NewOnes.{held-nowhere}
 use Rattle.rule_laws.proofs.makes.Sources.{Comes, Gives, Source, kind-come, ready_node, takes_by}
 
@@ -106,6 +112,8 @@ lease-of-call (HasLease other number) asked p to sender kind first fs h =
 lease-of-call Idle asked p to sender kind first fs h = absurd (none-is-not _ fs h)
 lease-of-call (IsHeld name) asked p to sender kind first fs h = absurd (none-is-not _ fs h)
 lease-of-call IsInHand asked p to sender kind first fs h = absurd (none-is-not _ fs h)
+lease-of-call Parked asked p to sender kind first fs h = absurd (none-is-not _ fs h)
+lease-of-call (Waits name) asked p to sender kind first fs h = absurd (none-is-not _ fs h)
 lease-of-call Ends asked p to sender kind first fs h = absurd (none-is-not _ fs h)
 lease-of-call (InAnswer node answer) asked p to sender kind first fs h = absurd (no-lease _ _ kind first fs refl h)
 lease-of-call (AsksLease other) asked p to sender kind first fs h = absurd (no-lease _ _ kind first fs refl h)
@@ -264,9 +272,9 @@ module _ (script : Script) (w : World) (b : Beside) (holds : Holds script w [] b
   own-name : NameHolds script b.pids (is_born_in w) (Proc (b.pids p)) (name_sight script w [] b (Proc (b.pids p)))
   own-name = holds.names (Proc (b.pids p))
 
-  own-deed : IsHeldAt (b.deed (Proc (b.pids p))) (body_in b.kernel (Proc (b.pids p))) p (LivingBody holds-row.row)
+  own-deed : IsHeldAt (b.deed (Proc (b.pids p))) (b.body (Proc (b.pids p))) p (LivingBody holds-row.row)
   own-deed =
-      held-there (b.deed (Proc (b.pids p))) (body_in b.kernel (Proc (b.pids p))) p (LivingBody holds-row.row)
+      held-there (b.deed (Proc (b.pids p))) (b.body (Proc (b.pids p))) p (LivingBody holds-row.row)
       (sym (own-name.tables p) ∙ ap (λ (q : ℕ). get_named n.deeds (Proc q)) (sym is-born.pid_is) ∙ holds-row.here)
 
   -- ---- the range
@@ -299,7 +307,7 @@ module _ (script : Script) (w : World) (b : Beside) (holds : Holds script w [] b
       or-true false = refl
 
   valid : IsValid b.kernel
-  valid = reachable_kernels_are_valid_lemma b.kernel (w.journal, holds.history.legal)
+  valid = reachable_kernels_are_valid_lemma b.kernel (history-reachable script b.lines b.kernel b.places holds.history)
 
   none-held : (number : ℕ) → is_used (used_of b.kernel kind) number ≡ false → node_holds n (name_of kind number) ≡ false
   none-held number unused =
@@ -337,9 +345,10 @@ module _ (script : Script) (w : World) (b : Beside) (holds : Holds script w [] b
   child-used pid number row held listed =
       let name : NameHolds script b.pids (is_born_in w) (Proc pid) (name_sight script w [] b (Proc pid)) =
       holds.names (Proc pid)
-      in let at : IsHeldAt (b.deed (Proc pid)) (body_in b.kernel (Proc pid)) p (LivingBody row) =
-      held-there (b.deed (Proc pid)) (body_in b.kernel (Proc pid)) p (LivingBody row) (sym (name.tables p) ∙ held)
-      in let lives = body-living b.kernel pid row (sym at.body_is)
+      in let at : IsHeldAt (b.deed (Proc pid)) (b.body (Proc pid)) p (LivingBody row) =
+      held-there (b.deed (Proc pid)) (b.body (Proc pid)) p (LivingBody row) (sym (name.tables p) ∙ held)
+      in let lives = body-living b.kernel pid row
+      (sym (process-body-is b.kernel (b.body (Proc pid)) pid name.parts) ∙ sym at.body_is)
       in child-of pid number lives.alive lives.lives (ap (λ (r : Row). lists r.family number) lives.row_is ∙ listed)
 
   not-listed : (number : ℕ) → is_used (used_of b.kernel kind) number ≡ false → is_listed_here n kind number ≡ false
@@ -400,13 +409,13 @@ module _ (script : Script) (w : World) (b : Beside) (holds : Holds script w [] b
       (step_to (record (ready_node n n.caller kind numbers (Comes first)) { leases = leases })) call first)
       (with-with n.leases kind (lease_of first) numbers)
 
-  given-by : (after : Step) → AreToNodes (node_count script) after.sends
+  given-by : (after : Step) → AreToNodes (node_count script) after.sends → after.strikes ≡ false
       → make_with script (step_to (ready_node n n.caller kind numbers (Comes first))) call first ≡ Some after
       → Gives script w p (events.Take p 1) (takes_by kind (Comes first)) after
-  given-by after to_nodes makes =
+  given-by after to_nodes unstruck makes =
       record {
         next = world_after (world_without w p 1 rest) p after;
-        is_step = take-steps script w p 1 frame rest after holds.shape h (rule-is ∙ makes);
+        is_step = take-steps script w p 1 frame rest after holds.shape h (rule-is ∙ makes) unstruck;
         changes = changes-by-take script w holds.shape p 1 frame rest after h to_nodes;
       }
 
@@ -434,6 +443,9 @@ module _ (script : Script) (w : World) (b : Beside) (holds : Holds script w [] b
       ap (λ y. one_for (has_lease kind y)) is-lease.place_is ∙ ap one_for (kind-itself kind)
       in omega (arith, here))
 
+  whole-is : HasWhole w b
+  whole-is = holds.whole
+
   -- The call goes on with the first number of the lease that has come.
   pub from-frame : Source script w b p call kind first numbers (Comes first) (events.Take p 1)
   from-frame =
@@ -450,13 +462,20 @@ module _ (script : Script) (w : World) (b : Beside) (holds : Holds script w [] b
         under_way = found.is;
         there = made.there;
         is_due = made.due;
-        may = may-make-from script w.journal b.kernel b.places (b.pids p) call made.alive holds.history made.lives
+        may = may-make-from script b.lines b.kernel b.places (b.pids p) call made.alive holds.history made.lives
             made.may;
+        may_whole = λ a lives. subst (λ y. HasMarks y (Some call) a) is-lease.place_is
+            (subst (λ o. HasMarks (b.call p) o a) found.is (whole-is.marks p a lives));
+        uncancelled = never-cancelled p Nothing (cancel_sight w [] b p) call found.is
+            (numbered-not-withdrawn n.pid kind call takes.takes) (holds.cancels p h.low h.high);
+        older = omega arith;
         tickets = has.tickets;
         try_left = has.try_left;
         about = about-taken;
         not_held = λ name. there.held_for_names name
             ∙ ap (λ y. only_if (is_held_at y name) (Request (asked_of x call))) is-lease.place_is;
+        not_waiting = λ name. there.waiting name
+            ∙ ap (λ y. only_if (is_waiting_at y name) (waiting_as (asked_of x call))) is-lease.place_is;
         other_kinds = λ y apart. ap (has_lease y) is-lease.place_is ∙ apart;
         at_leader = λ apart. refl;
         ready = kind-come (is_born_in w) (kind_sight w b.kernel kind) p first numbers-hold over comes;

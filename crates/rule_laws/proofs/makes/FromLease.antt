@@ -27,6 +27,7 @@ use Rattle.world_laws.proofs.Sends.{AreToNodes}
 use Rattle.world_laws.proofs.Steps.{changes-by-run, run-steps}
 use Rattle.rule_laws.proofs.own.Asks.{Takes}
 use Rattle.rule_laws.proofs.own.Runs.{Starts, run-is}
+use Rattle.rule_laws.proofs.own.Starting.{starts-may-as, starts-uncancelled}
 use Rattle.rule_laws.proofs.makes.Sources.{Gives, InLease, Origin, Source, kind-at-hand, ready_node, takes_by}
 
 -- none of no frames
@@ -61,12 +62,12 @@ module _ (script : Script) (sound : IsSoundScript script) (w : World) (b : Besid
 
   -- a call that starts so is the node's step
   pub given-by : (numbers : List ℕ) (number : ℕ) (o : Origin) → takes_by kind o ≡ [] → (after : Step)
-      → AreToNodes (node_count script) after.sends
+      → AreToNodes (node_count script) after.sends → after.strikes ≡ false
       → start_making script first call kind
       ≡ make_with script (step_to (ready_node n started kind numbers o)) call number
       → make_with script (step_to (ready_node n started kind numbers o)) call number ≡ Some after
       → Gives script w p (events.Run p) (takes_by kind o) after
-  given-by numbers number o none after to_nodes starts makes =
+  given-by numbers number o none after to_nodes unstruck starts makes =
       record {
         next = world_after w p after;
         is_step = run-steps script w p after holds.shape low high (making ∙ starts ∙ makes);
@@ -114,16 +115,21 @@ module _ (script : Script) (sound : IsSoundScript script) (w : World) (b : Besid
           there = s.free.there;
           is_due = s.due_now.due;
           may = s.may;
+          may_whole = starts-may-as script w b holds p low high s;
+          uncancelled = starts-uncancelled script w b holds p low high s;
+          older = omega arith;
           tickets = let few = s.free.tickets in omega (arith, few);
           try_left = s.free.try_left;
           about = λ to sender. s.nowhere.in_streams to sender
               ∙ sym (ap (filter (is_about p to sender)) (frames-of-none (nat_eq to p)));
           not_held = s.nowhere.held_for_names;
+          not_waiting = s.nowhere.waiting;
           other_kinds = λ y d. ap (has_lease y) s.idle;
           at_leader = λ d. refl;
           ready = kind-at-hand (is_born_in w) (kind_sight w b.kernel kind) p (number ∷ numbers) (holds.kinds kind) lease
               none-coming;
           few = let old = holds.few kind in let same = on-way-still in omega (arith, old, same);
           enough = enough;
-          gives = λ after to_nodes makes. given-by numbers number InLease refl after to_nodes starts-so makes;
+          gives = λ after to_nodes unstruck makes.
+              given-by numbers number InLease refl after to_nodes unstruck starts-so makes;
         }

@@ -32,6 +32,7 @@ use Rattle.world_laws.proofs.NewRanges.{no-lease-about, unmade-next}
 use Rattle.rule_laws.proofs.own.Asks.{Takes}
 use Rattle.rule_laws.proofs.own.Objects.{for-with}
 use Rattle.rule_laws.proofs.own.Runs.{Starts}
+use Rattle.rule_laws.proofs.own.Starting.{starts-may-as, starts-uncancelled}
 use Rattle.rule_laws.proofs.makes.NewOnes.{nothing-known}
 use Rattle.rule_laws.proofs.makes.Sources.{Next, Source, kind-next, ready_kind, ready_node}
 use Rattle.rule_laws.proofs.makes.FromLease.{frames-of-none, given-by, on-way-still}
@@ -157,11 +158,15 @@ module _ (script : Script) (sound : IsSoundScript script) (w : World) (b : Besid
         there = s.free.there;
         is_due = s.due_now.due;
         may = s.may;
+        may_whole = starts-may-as script w b holds 1 low high s;
+        uncancelled = starts-uncancelled script w b holds 1 low high s;
+        older = omega arith;
         tickets = let few = s.free.tickets in omega (arith, few);
         try_left = s.free.try_left;
         about = λ to sender. s.nowhere.in_streams to sender
             ∙ sym (ap (filter (is_about 1 to sender)) (frames-of-none (nat_eq to 1)));
         not_held = s.nowhere.held_for_names;
+        not_waiting = s.nowhere.waiting;
         other_kinds = λ y d. ap (has_lease y) s.idle;
         at_leader = λ other. absurd (other refl);
         ready = subst (λ rs. KindHolds (is_born_in w) (ready_kind (kind_sight w b.kernel kind) 1 (lease_of up) rs))
@@ -177,6 +182,7 @@ module _ (script : Script) (sound : IsSoundScript script) (w : World) (b : Besid
             let count = counted
             in let fewer = ltb-true (length were) max_ranges more
             in omega (arith, count, fewer);
-        gives = λ after to_nodes makes. given-by script sound w b holds 1 low high can s kind takes later up Next refl
-            after to_nodes starts-so makes;
+        gives = λ after to_nodes unstruck makes. given-by script sound w b holds 1 low high can s kind takes later up
+            Next
+            refl after to_nodes unstruck starts-so makes;
       }

@@ -7,7 +7,6 @@ use Rattle.pico_base.specs.declared.script.Script.{Script}
 use Rattle.rpc_frame.specs.declared.deed.Parcel.{Parcel}
 use Rattle.kernel_laws.proofs.Members.{contains-filtered, contains-first}
 use Rattle.node_model.specs.declared.held.Held.{Held}
-use Rattle.node_model.specs.Bodies.{body_in}
 use Rattle.node_model.specs.Directory.{held_for, is_parcel_with}
 use Rattle.world_model.specs.Census.{brings}
 use Rattle.world_model.specs.Node.{Left, Node, Stage}
@@ -70,19 +69,19 @@ module _ (script : Script) (w : World) (b : Beside) (holds : Holds script w [] b
 
         in-stream : (place : DeedPlace) → b.deed m ≡ place → (to sender : ℕ)
             → is_stream_of (forker script) place to sender ≡ true
-            → OnlyOne (IsBringer b.pids m (body_in b.kernel m) place) (filter (brings m) (frames_to w to sender))
+            → OnlyOne (IsBringer b.pids m (b.body m) place) (filter (brings m) (frames_to w to sender))
         in-stream place is to sender t =
-            one-there (IsBringer b.pids m (body_in b.kernel m) place) (filter (brings m) (frames_to w to sender))
+            one-there (IsBringer b.pids m (b.body m) place) (filter (brings m) (frames_to w to sender))
             (is_stream_of (forker script) place to sender) t
             (subst (λ (d : DeedPlace). OneIf (is_stream_of (forker script) d to sender)
-            (IsBringer b.pids m (body_in b.kernel m) d) (filter (brings m) (frames_to w to sender))) is
+            (IsBringer b.pids m (b.body m) d) (filter (brings m) (frames_to w to sender))) is
             (known.streams to sender))
 
         by-left : (g : ℕ) → b.deed m ≡ InLeft g → stage_of w g ≡ Left
         by-left g is =
             let one = in-stream (InLeft g) is 1 g (both-true (nat_eq 1 1) (nat_eq g g) refl (eq-eqb g g refl))
-            in let of : IsLeftOf m (body_in b.kernel m) (b.pids g) one.one = one.holds
-            in let has : HasDeed m (body_in b.kernel m) (b.pids g) of.parcel = of.has
+            in let of : IsLeftOf m (b.body m) (b.pids g) one.one = one.holds
+            in let has : HasDeed m (b.body m) (b.pids g) of.parcel = of.has
             in parcel-node g of.parcel
             (left_in g (subst (λ f. Contains (frames_to w 1 g) f) of.is
             (in-filtered (brings m) (frames_to w 1 g) one.one one.only))) has.of_process
@@ -90,8 +89,8 @@ module _ (script : Script) (w : World) (b : Beside) (holds : Holds script w [] b
         by-exit : (g to : ℕ) → b.deed m ≡ InExitTo g to → stage_of w g ≡ Left
         by-exit g to is =
             let one = in-stream (InExitTo g to) is to 1 (both-true (nat_eq to to) (nat_eq 1 1) (eq-eqb to to refl) refl)
-            in let of : IsExitOf m (body_in b.kernel m) (b.pids g) one.one = one.holds
-            in let has : HasDeed m (body_in b.kernel m) (b.pids g) of.parcel = of.has
+            in let of : IsExitOf m (b.body m) (b.pids g) one.one = one.holds
+            in let has : HasDeed m (b.body m) (b.pids g) of.parcel = of.has
             in parcel-node g of.parcel
             (sent_in to (subst (λ f. Contains (frames_to w to 1) f) of.is
             (in-filtered (brings m) (frames_to w to 1) one.one one.only))) has.of_process
@@ -99,21 +98,21 @@ module _ (script : Script) (w : World) (b : Beside) (holds : Holds script w [] b
         by-kept : (g : ℕ) → b.deed m ≡ InKept g → stage_of w g ≡ Left
         by-kept g is =
             let pid : ℕ = b.pids (forker script g)
-            in let one : OnlyOne (IsItemWith m (body_in b.kernel m) (b.pids g)) (x.kept pid) =
-            one-there (IsItemWith m (body_in b.kernel m) (b.pids g)) (x.kept pid) (nat_eq pid pid) (eq-eqb pid pid refl)
+            in let one : OnlyOne (IsItemWith m (b.body m) (b.pids g)) (x.kept pid) =
+            one-there (IsItemWith m (b.body m) (b.pids g)) (x.kept pid) (nat_eq pid pid) (eq-eqb pid pid refl)
             (subst (λ (d : DeedPlace). OneIf (is_kept_for (forker script) b.pids d pid)
-            (IsItemWith m (body_in b.kernel m) (b.pids (node_in d))) (x.kept pid)) is (known.kept pid))
-            in let of : IsItemWith m (body_in b.kernel m) (b.pids g) one.one = one.holds
-            in let has : HasDeed m (body_in b.kernel m) (b.pids g) of.parcel = of.has
+            (IsItemWith m (b.body m) (b.pids (node_in d))) (x.kept pid)) is (known.kept pid))
+            in let of : IsItemWith m (b.body m) (b.pids g) one.one = one.holds
+            in let has : HasDeed m (b.body m) (b.pids g) of.parcel = of.has
             in parcel-node g of.parcel
             (kept_in pid (subst (λ i. Contains (held_for (directory_of w) (Proc pid)) i) of.is
             (in-filtered (is_parcel_with m) (held_for (directory_of w) (Proc pid)) one.one one.only))) has.of_process
 
         by-hand : (g : ℕ) → b.deed m ≡ InHand g → ⊥
         by-hand g is =
-            let one : OnlyOne (IsItemWith m (body_in b.kernel m) (b.pids g)) [] =
+            let one : OnlyOne (IsItemWith m (b.body m) (b.pids g)) [] =
             subst (λ (d : DeedPlace). OneIf (is_hand_place d)
-            (IsItemWith m (body_in b.kernel m) (b.pids (node_in d))) []) is known.in_hand
+            (IsItemWith m (b.body m) (b.pids (node_in d))) []) is known.in_hand
             in not-one one.one one.only
           where
             not-one : (i : Held) → [] ≡ i ∷ [] → ⊥

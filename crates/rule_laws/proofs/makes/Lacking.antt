@@ -1,6 +1,6 @@
 -- A name that nothing has, at a node that doesn't leave: it isn't there, and nothing on its way from the leader is
 -- about it.
-use Rattle.std.proofs.Common.{◌≡◌, ℕ, ◌≤◌, Bool, true, false, ◌&&◌, ◌||◌, not, cond, List, [], ◌∷◌, filter, nat_eq, is_some, refl, ap, sym, ◌∙◌, inl, inr}
+use Rattle.std.proofs.Common.{◌≡◌, ℕ, ◌≤◌, Bool, true, false, ◌&&◌, ◌||◌, not, cond, List, [], ◌∷◌, filter, nat_eq, is_some, refl, ap, sym, subst, ◌∙◌, inl, inr}
 use Rattle.pico_base.specs.declared.numbers.Name.{Name}
 use Rattle.pico_base.specs.declared.script.Script.{Script}
 use Rattle.rpc_frame.specs.declared.frame.Frame.{Frame}
@@ -11,7 +11,7 @@ use Rattle.world_model.specs.World.{World}
 use Rattle.world_laws.specs.Places.{Beside}
 use Rattle.world_laws.specs.Sights.{frames_to, is_born_in, stage_of}
 use Rattle.world_laws.specs.Plays.{Lacks, begin, has_any, is_checkpoint_of, play, plays}
-use Rattle.world_laws.specs.Names.{NameHolds, NameSight, comes_to, forker, held_at, name_sight}
+use Rattle.world_laws.specs.Names.{NameHolds, NameSight, PlaysTo, comes_to, forker, held_at, name_sight}
 use Rattle.world_laws.specs.Invariant.{Holds}
 use Rattle.world_laws.specs.Ways.{IsHere, way_sight}
 use Rattle.world_laws.proofs.NameFacts.{begins-without, has_left}
@@ -65,9 +65,10 @@ module _ (script : Script) (w : World) (b : Beside) (holds : Holds script w [] b
         (ap is_some (held-nowhere script b.pids (is_born_in w) name x known unused q)) ∙ comes-none q)
 
     -- and nothing on its way there brings it, takes it or needs it
-    pub nothing-played : 2 ≤ q → plays b.call name (frames_to w q 1) ≡ []
+    pub nothing-played : 2 ≤ q → plays false b.call name (frames_to w q 1) ≡ []
     nothing-played low =
-        let was = plays-without script b.pids (is_born_in w) name x known unused q low
-        in no-plays b.call name (frames_to w q 1) was.last
+        let was = subst (λ u. PlaysTo (x.begins q) (plays u b.call name (frames_to w q 1)) false) unused
+        (plays-without script b.pids (is_born_in w) name x known unused q low)
+        in no-plays false b.call name (frames_to w q 1) was.last
         (brought-nowhere script b.pids (is_born_in w) name x known unused q 1) way.shows.has_recalls
-        (sym (ap (λ z. play z (plays b.call name (frames_to w q 1))) begins-lacks) ∙ was.plays)
+        (sym (ap (λ z. play z (plays false b.call name (frames_to w q 1))) begins-lacks) ∙ was.plays)

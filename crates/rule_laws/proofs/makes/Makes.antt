@@ -1,12 +1,13 @@
 -- A node starts, or goes on with, a call that takes a number, and what holds in every world that a run leads to
 -- still holds. So each call of a process on itself keeps it, at every node.
-use Rattle.std.proofs.Common.{◌≡◌, ◌≢◌, ◌⊎◌, ℕ, ◌≤◌, Bool, true, List, [], ◌∷◌, length, Some, None, Ok, refl, ap, sym, subst, inl, inr, arith}
+use Rattle.std.proofs.Common.{◌≡◌, ◌≢◌, ◌⊎◌, ℕ, ◌≤◌, Bool, true, List, [], ◌∷◌, length, Option, Some, None, Ok, refl, ap, sym, subst, inl, inr, arith}
 use Rattle.std.proofs.lemmas.Bool.{cases_eq, ltb-true}
 use Rattle.pico_base.specs.declared.call.Call.{Call}
 use Rattle.pico_base.specs.declared.call.Call.TheVariants as calls
 use Rattle.pico_base.specs.declared.numbers.Kind.{Kind}
 use Rattle.pico_base.specs.declared.numbers.Kind.TheVariants as kinds
 use Rattle.pico_base.specs.declared.numbers.Name.TheVariants.{Msg, Sem}
+use Rattle.pico_base.specs.declared.reply.Reply.{Reply}
 use Rattle.pico_base.specs.declared.script.Event.{Event}
 use Rattle.pico_base.specs.declared.script.Event.TheVariants as events
 use Rattle.pico_base.specs.declared.script.Script.{Script}
@@ -16,21 +17,25 @@ use Rattle.number_maps.specs.Rising.{IsRising}
 use Rattle.kernel_model.specs.Queue.{empty_queue}
 use Rattle.kernel_model.specs.Script.{IsSoundScript}
 use Rattle.kernel_model.specs.SemaphoreSet.{SemaphoreSet, new_set}
+use Rattle.waiting_model.specs.Linear.{at_once}
+use Rattle.waiting_model.specs.Waiters.{unawaited}
 use Rattle.node_model.specs.Bodies.{AQueue, ASet}
-use Rattle.node_model.specs.Carrying.{is_own}
+use Rattle.node_model.specs.Awaiting.{on_own}
+use Rattle.node_model.specs.Carrying.{is_own, is_served}
 use Rattle.node_model.specs.Directory.{has_more, max_ranges}
 use Rattle.node_model.specs.Kinds.{for_kind}
 use Rattle.node_model.specs.Leases.{is_used_up}
 use Rattle.world_model.specs.Node.{can_run}
 use Rattle.world_model.specs.World.{World, node_count}
-use Rattle.world_laws.specs.Places.{AsksLease, Beside, CallPlace, Idle}
+use Rattle.world_laws.specs.Places.{AsksLease, Beside, CallPlace, Idle, Parked}
 use Rattle.world_laws.specs.Sights.{directory_of, node_of}
 use Rattle.world_laws.specs.Invariant.{Holds}
 use Rattle.world_laws.proofs.Steps.{Heads}
 use Rattle.rule_laws.proofs.own.Asks.{lease-ask-starts}
 use Rattle.rule_laws.proofs.own.Made.{makes-queue as a-queue, makes-set as a-set}
 use Rattle.rule_laws.proofs.own.OwnCalls.{own-call-keeps}
-use Rattle.rule_laws.proofs.own.Moved.{AfterRun, IsMoved}
+use Rattle.rule_laws.proofs.own.Moved.{AfterRun, IsMoved, is_still}
+use Rattle.rule_laws.proofs.own.OwnWaits.{own-wait-keeps}
 use Rattle.rule_laws.proofs.own.OwnCases.{Keeps, OwnCase, forks as case-forks, is-refused, makes-queue, makes-set, own-case, serves}
 use Rattle.rule_laws.proofs.own.Refused.{refused-keeps}
 use Rattle.rule_laws.proofs.own.Runs.{Starts}
@@ -68,7 +73,7 @@ module _ (script : Script) (sound : IsSoundScript script) (w : World) (b : Besid
       record {
         beside = _;
         keeps = fork-keeps script sound w b holds p block kind number numbers o e s;
-        after = record { place = Idle; calls = λ y. refl; fits = refl };
+        after = record { place = Idle; calls = λ y. is_still refl; fits = refl };
       }
 
   queue-with : (create excl : Bool)
@@ -78,11 +83,11 @@ module _ (script : Script) (sound : IsSoundScript script) (w : World) (b : Besid
       record {
         beside = _;
         keeps = object-keeps script w b holds p (calls.MsgGet None create excl) kinds.Msg number numbers o e s
-            (Msg number) (AQueue empty_queue)
+            (Msg number) (AQueue (unawaited empty_queue))
             (a-queue script b.kernel (b.pids p) number create excl s.may
             (number-unused script w b holds p (calls.MsgGet None create excl) kinds.Msg number numbers o e s)
             (number-positive script w b holds p (calls.MsgGet None create excl) kinds.Msg number numbers o e s));
-        after = record { place = Idle; calls = λ y. refl; fits = refl };
+        after = record { place = Idle; calls = λ y. is_still refl; fits = refl };
       }
 
   set-with : (count : ℕ) (create excl : Bool) (set : SemaphoreSet) → new_set count ≡ Ok set
@@ -92,11 +97,11 @@ module _ (script : Script) (sound : IsSoundScript script) (w : World) (b : Besid
       record {
         beside = _;
         keeps = object-keeps script w b holds p (calls.SemGet None count create excl) kinds.Sem number numbers o e s
-            (Sem number) (ASet set)
+            (Sem number) (ASet (unawaited set))
             (a-set script b.kernel (b.pids p) number count create excl set s.may sized
             (number-unused script w b holds p (calls.SemGet None count create excl) kinds.Sem number numbers o e s)
             (number-positive script w b holds p (calls.SemGet None count create excl) kinds.Sem number numbers o e s));
-        after = record { place = Idle; calls = λ y. refl; fits = refl };
+        after = record { place = Idle; calls = λ y. is_still refl; fits = refl };
       }
 
   -- A call that has its number is carried out with it.
@@ -130,6 +135,29 @@ lease-keeps script sound w b holds p kind first rest h rising sized enough =
 
 -- ---- a call that starts
 
+-- A call of a process on itself that is served has its reply, or parks.
+served-starts : (script : Script) → IsSoundScript script → (w : World) (b : Beside) → Holds script w [] b → (p : ℕ)
+    → 1 ≤ p → p ≤ node_count script → can_run (node_of w p) ≡ true → (s : Starts script w b p)
+    → is_own (node_of w p).pid s.call ≡ true → is_served (at_once s.call) ≡ true
+    → Keeps script w (events.Run p) (AfterRun b p)
+served-starts script sound w b holds p low high can s own served =
+    by-reply (on_own s.row (b.pids p) s.call).own refl
+  where
+    by-reply : (o : Option Reply) → (on_own s.row (b.pids p) s.call).own ≡ o
+        → Keeps script w (events.Run p) (AfterRun b p)
+    by-reply (Some reply) replied =
+        record {
+          beside = _;
+          keeps = own-call-keeps script sound w b holds p low high can s own served reply replied;
+          after = inl (λ y. is_still refl);
+        }
+    by-reply None unreplied =
+        record {
+          beside = _;
+          keeps = own-wait-keeps script sound w b holds p low high can s own served unreplied;
+          after = inr (record { place = Parked; calls = λ y. is_still refl; fits = tt });
+        }
+
 module _ (script : Script) (sound : IsSoundScript script) (w : World) (b : Beside) (holds : Holds script w [] b) (p : ℕ)
     (low : 1 ≤ p) (high : p ≤ node_count script) (can : can_run (node_of w p) ≡ true) (s : Starts script w b p)
     (more : (kind : Kind) → has_more (directory_of w) kind ≡ true) where
@@ -145,7 +173,7 @@ module _ (script : Script) (sound : IsSoundScript script) (w : World) (b : Besid
         beside = _;
         keeps = lease-ask-starts script sound w b holds p low high can s other kind (making-takes kind s.call m)
             (ap is_used_up over);
-        after = inr (record { place = AsksLease kind; calls = λ y. refl; fits = tt });
+        after = inr (record { place = AsksLease kind; calls = λ y. is_still refl; fits = tt });
       }
   used-up kind m over (inl first) =
       at-leader p first low high can s m over
@@ -176,15 +204,10 @@ module _ (script : Script) (sound : IsSoundScript script) (w : World) (b : Besid
 
   -- Each call of a process on itself starts, at any node.
   pub own-call-starts : is_own (node_of w p).pid s.call ≡ true → Keeps script w (events.Run p) (AfterRun b p)
-  own-call-starts own = by-case (own-case (node_of w p).pid s.call own s.due_now.not_waiting)
+  own-call-starts own = by-case (own-case (node_of w p).pid s.call own s.due_now.not_withdrawal)
     where
       by-case : OwnCase s.call → Keeps script w (events.Run p) (AfterRun b p)
-      by-case (serves served) =
-          record {
-            beside = _;
-            keeps = own-call-keeps script sound w b holds p low high can s own served;
-            after = inl (λ y. refl);
-          }
+      by-case (serves served) = served-starts script sound w b holds p low high can s own served
       by-case (case-forks block is) = making-keeps kinds.Proc (forks block refl is)
       by-case (makes-queue create excl is) = making-keeps kinds.Msg (makes_queue create excl refl is)
       by-case (makes-set count create excl set is sized) =
@@ -193,5 +216,5 @@ module _ (script : Script) (sound : IsSoundScript script) (w : World) (b : Besid
           record {
             beside = _;
             keeps = refused-keeps script sound w b holds p low high can s count create excl error is bad;
-            after = inl (λ y. refl);
+            after = inl (λ y. is_still refl);
           }

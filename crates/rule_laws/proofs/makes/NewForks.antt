@@ -1,6 +1,6 @@
 -- A node's process forks, whatever the number's source: its row lists the child, whose deed goes to the block's node
 -- in a Checkpoint, and the child's place is told, or placed.
-use Rattle.std.proofs.Common.{◌≡◌, ◌≢◌, ◌⊎◌, ℕ, ◌≤◌, Bool, true, false, ◌&&◌, cond, not, if◌then◌else◌, List, [], ◌∷◌, ◌++◌, filter, flat_map, nat_eq, Contains, Option, Some, None, is_some, option_map, refl, ap, sym, subst, ◌∙◌, inl, inr, arith, append-nil}
+use Rattle.std.proofs.Common.{◌≡◌, ◌≢◌, ◌⊎◌, ℕ, ◌≤◌, Bool, true, false, ◌&&◌, cond, not, if◌then◌else◌, List, [], ◌∷◌, ◌++◌, filter, flat_map, nat_eq, Contains, Option, Some, None, is_none, is_some, option_and_then, option_map, refl, ap, sym, subst, ◌∙◌, inl, inr, arith, append-nil}
 use Rattle.std.specs.List.{AllByRecursion}
 use Rattle.std.proofs.lemmas.Bool.{cases_eq, eq-eqb, eqb-true, ne_eqb, false≢true}
 use Rattle.pico_base.specs.declared.call.Call.{Call}
@@ -20,16 +20,17 @@ use Rattle.rpc_frame.specs.declared.frame.Frame.TheVariants as frames
 use Rattle.number_maps.specs.Maps.{get}
 use Rattle.kernel_model.specs.Fitting.{Place, Places, child_vars, places_after}
 use Rattle.kernel_model.specs.Kernel.{living_at}
+use Rattle.kernel_model.specs.Kernel as kernel
 use Rattle.kernel_model.specs.Row.{Row}
 use Rattle.kernel_model.specs.Script.{IsSoundScript}
 use Rattle.entry_laws.specs.Entering.{is_used_name}
 use Rattle.entry_laws.proofs.Fresh.{Forks}
 use Rattle.entry_laws.proofs.History.{ForkPlaces, fork-places}
 use Rattle.entry_laws.proofs.Numbers.{used-made, used-others}
-use Rattle.node_model.specs.Bodies.{Body, Living as LivingBody, body_in, row_of}
+use Rattle.node_model.specs.Bodies.{Body, Living as LivingBody, body_in, row_of, waiters_of}
 use Rattle.node_model.specs.Caller.{answer_call, caller_place}
 use Rattle.node_model.specs.Directory.{Directory, is_known, is_parcel_with, maker}
-use Rattle.node_model.specs.Kinds.{get_named, put_named, with_kind}
+use Rattle.node_model.specs.Kinds.{get_named, is_object, put_named, with_kind}
 use Rattle.node_model.specs.Serving.{child_body, parent_body}
 use Rattle.node_model.specs.Spelling.{pack}
 use Rattle.world_model.specs.Census.{brings}
@@ -46,7 +47,20 @@ use Rattle.world_laws.specs.Invariant.{FramesFit, Holds, process_deed}
 use Rattle.rpc_frame.specs.declared.deed.Parcel.{Parcel}
 use Rattle.node_model.specs.declared.held.Held.TheVariants.{Ending}
 use Rattle.node_model.specs.Entries.{entry_by}
-use Rattle.world_laws.specs.Callers.{CallHolds, CallSight, FreeIn, HasCallOrNone, call_sight, is_about, is_end_place, is_end_stage, is_item_about}
+use Rattle.world_laws.specs.Callers.{CallHolds, CallSight, FreeIn, HasCallOrNone, call_sight, is_about, is_end_place, is_end_stage, is_item_about, is_waiter_of}
+use Rattle.world_laws.specs.Cancels.{CancelHolds, Nothing, cancel_sight, is_held_cancel_of}
+use Rattle.world_laws.specs.Wholes.{under_way_at}
+use Rattle.waiting_model.specs.Calls.{may_park, waits_at}
+use Rattle.world_laws.proofs.Cancels.{cancel-left-alone, is_item_of}
+use Rattle.world_laws.proofs.Replied.{cancel-over}
+use Rattle.rule_laws.proofs.Nowhere.{nowhere-unused, still-unknown}
+use Rattle.rule_laws.proofs.Withdrawals.{idle-uncancelled, old-still}
+use Rattle.rule_laws.proofs.own.Alone.{process-is-body, process-unchanged, process-waiters}
+use Rattle.rule_laws.proofs.own.Bodies.{process_bodies}
+use Rattle.rule_laws.proofs.own.Entries.{StillLives}
+use Rattle.rule_laws.proofs.own.InWhole.{EntersAlone, IsNewProcess, has-whole-then, other-withdrawal}
+use Rattle.rule_laws.proofs.makes.Entered.{entered_by, made-enters}
+use Rattle.rule_laws.proofs.makes.FirstUsed.{plays-of-process}
 use Rattle.world_laws.proofs.Frames.{all-weaker, not-about}
 use Rattle.world_laws.proofs.LeftAlone.{call-left-alone, frames-still-fit, other-node-stays, parcel-was-there, sender-stays, way-left-alone}
 use Rattle.world_laws.proofs.Changes.{Changes, IsListMap, MakesNothing, filter-is-list-map, flat_map-is-list-map, frames_if, made-after, made-same, nothing-sent, read-same, sent}
@@ -60,7 +74,7 @@ use Rattle.world_laws.proofs.Sends.{AreToNodes, frame_if}
 use Rattle.world_laws.proofs.Stays.{IsMore, SameName, SameWay, call-stays, name-stays, node-born, way-stays}
 use Rattle.world_laws.proofs.Steps.{KeepsAs}
 use Rattle.rule_laws.proofs.own.Others.{call-goes-on}
-use Rattle.rule_laws.proofs.own.Rebodied.{name-rebodied}
+use Rattle.rule_laws.proofs.own.Rebodied.{IsBodyOf, name-rebodied}
 use Rattle.world_laws.proofs.Changes.{still-born}
 use Rattle.rule_laws.proofs.makes.CallsOver.{carried-here}
 use Rattle.rule_laws.proofs.makes.Counts.{few-now, kinds-now}
@@ -76,7 +90,7 @@ use Rattle.rule_laws.proofs.makes.NewOnes.{AreMore, IsNew, brought-nowhere, held
 use Rattle.rule_laws.proofs.makes.Handed.{handed-has-left, left-is-forked}
 use Rattle.rule_laws.proofs.makes.Ready.{calls-now, left-same, left-steps, name-is-ready, other-seen, others-same, ready-name}
 use Rattle.rule_laws.proofs.makes.Sources.{Gives, Origin, Source, directory_by, ready_node, takes_by}
-use Rattle.rule_laws.proofs.makes.Taken.{call-after, history-after, keys-after, name-maker, name-unknown, name-unused, some-node, taken-of-no-other, taken-plain}
+use Rattle.rule_laws.proofs.makes.Taken.{call-after, cancel-after, free-after, history-after, keys-after, name-maker, name-unknown, name-unused, some-node, taken-no-cancel, taken-of-no-other, taken-plain}
 use Rattle.rule_laws.proofs.makes.Told.{belief-now, bound-now, found-now, items-now, leased-now, ranged-now, sent-append, told-now, unplaced-now}
 use Rattle.rule_laws.proofs.makes.Unforked.{from-here, is-unborn, no-births, not-forked, unborn-call, unborn-here, unborn-stage}
 
@@ -131,6 +145,7 @@ module _ (script : Script) (sound : IsSoundScript script) (w : World) (b : Besid
             };
         entries = entry_by q process call reply ∷ [];
         sends = (block, checkpoint-with q process) ∷ tells_if (nat_eq p 1) name block;
+        strikes = false;
       }
 
   abbrev after-node : Node
@@ -153,7 +168,7 @@ module _ (script : Script) (sound : IsSoundScript script) (w : World) (b : Besid
   entries = entry_by p pid call reply ∷ []
 
   abbrev after : Step
-  after = record { node = after-node; entries = entries; sends = sends }
+  after = record { node = after-node; entries = entries; sends = sends; strikes = false }
 
   abbrev ready : Node
   ready = ready_node n s.caller kind numbers o
@@ -164,6 +179,7 @@ module _ (script : Script) (sound : IsSoundScript script) (w : World) (b : Besid
         node = record ready { deeds = put_named n.deeds (Proc n.pid) (parent_body s.row number) };
         entries = [];
         sends = [];
+        strikes = false;
       }
 
   abbrev replied : Step
@@ -172,6 +188,7 @@ module _ (script : Script) (sound : IsSoundScript script) (w : World) (b : Besid
         node = record held.node { caller = answer_call script n.number s.caller call reply };
         entries = entry_by n.number n.pid call reply ∷ [];
         sends = [];
+        strikes = false;
       }
 
   rule : make_with script (step_to ready) call number ≡ Some after
@@ -206,7 +223,7 @@ module _ (script : Script) (sound : IsSoundScript script) (w : World) (b : Besid
 
   -- which is the event's
   pub given : Gives script w p e (takes_by kind o) after
-  given = s.gives after to-nodes rule
+  given = s.gives after to-nodes refl rule
 
   abbrev next : World
   next = given.next
@@ -231,10 +248,15 @@ module _ (script : Script) (sound : IsSoundScript script) (w : World) (b : Besid
   abbrev calls-after : ℕ → CallPlace
   calls-after = calls-now script w b holds p call kind number numbers o e s next after-node sends entries changes
 
+  abbrev body-now : Name → Body
+  body-now = process_bodies forks.next b.body
+
   -- what stands beside the world then
   abbrev pub moved : Beside
   moved =
-      record { kernel = forks.next; places = places-now; pids = pids-now; deed = deed-now; call = calls-after }
+      entered_by script w b holds p call kind number numbers o e s reply forks.next forks.enters.makes next after-node
+      sends
+      changes (record b { pids = pids-now; deed = deed-now; body = body-now })
 
   leaves : ForkLeaves script b.kernel b.places b.pids p block number s.row (child_vars place) forks.next places-now
   unfolding forks
@@ -282,6 +304,29 @@ module _ (script : Script) (sound : IsSoundScript script) (w : World) (b : Besid
   child-there : pids-now block ≡ number
   child-there = now-there script b.kernel b.places b.pids p block number s.row (child_vars place) forks.next places-now
       leaves
+
+  -- ---- the bodies
+
+  object-stays : (m : Name) → is_object m ≡ true → body_in forks.next m ≡ body_in b.kernel m
+  object-stays (Msg id) object = forks.rest (Msg id) (queue-no-process id pid) (queue-no-process id number)
+    where
+      queue-no-process : (id q : ℕ) → Msg id ≡ Proc q → ⊥
+      queue-no-process id q h = cc
+  object-stays (Sem id) object = forks.rest (Sem id) (set-no-process id pid) (set-no-process id number)
+    where
+      set-no-process : (id q : ℕ) → Sem id ≡ Proc q → ⊥
+      set-no-process id q h = cc
+  object-stays (Proc q) object = absurd (false≢true object)
+
+  now-body : (m : Name) → IsBodyOf script (body_in forks.next m) (body-now m)
+  now-body m = process-is-body script w [] Nothing b holds forks.next object-stays m
+
+  waiters-same : (m : Name) → waiters_of (body-now m) ≡ waiters_of (b.body m)
+  waiters-same m = process-waiters script w [] Nothing b holds forks.next object-stays m
+
+  waiters-of : (c : ℕ) (m : Name)
+      → filter (is_waiter_of c) (waiters_of (body-now m)) ≡ filter (is_waiter_of c) (waiters_of (b.body m))
+  waiters-of c m = ap (filter (is_waiter_of c)) (waiters-same m)
 
   -- ---- the node
 
@@ -465,22 +510,37 @@ module _ (script : Script) (sound : IsSoundScript script) (w : World) (b : Besid
       (held-now q ∙ sym (held-nowhere script b.pids (is_born_in w) name x known unused q))
       ∙ ap (λ stage. begin stage (is_some (held_at w name q)) (comes_to script w name q)) (stage-same q)
 
+  used-now : is_used_name forks.next name ≡ true
+  used-now = used-made b.kernel pid call reply name forks.next forks.enters
+
+  -- what was on its way is the same for a process whether it is used or not
+  steps-left : (q : ℕ) → plays true calls-after name (changes.left q 1) ≡ plays false b.call name (frames_to w q 1)
+  steps-left q =
+      left-steps script w b holds p call kind number numbers o e s next after-node sends entries changes true name q
+      ∙ plays-of-process b.call name (frames_to w q 1) refl
+
+  steps-now : (q : ℕ) → y.steps q
+      ≡ plays true calls-after name (changes.left q 1) ++ plays true calls-after name (sent p sends q 1)
+  steps-now q =
+      ap (λ u. plays u calls-after name (frames_to next q 1)) used-now
+      ∙ made-after script p w next after-node (takes_by kind o) sends entries changes
+      (λ t z fs. plays true calls-after name fs) (λ t z. flat_map-is-list-map _) q 1
+
   steps-elsewhere : (q : ℕ) → q ≢ block → y.steps q ≡ x.steps q
   steps-elsewhere q d =
-      made-after script p w next after-node (takes_by kind o) sends entries changes
-      (λ t z fs. plays calls-after name fs) (λ t z. flat_map-is-list-map _) q 1
-      ∙ ap (λ ys. ys ++ plays calls-after name (sent p sends q 1))
-      (left-steps script w b holds p call kind number numbers o e s next after-node sends entries changes name q)
-      ∙ ap (λ ys. plays b.call name (frames_to w q 1) ++ ys) (nothing-played-there q d)
-      ∙ append-nil (plays b.call name (frames_to w q 1))
+      steps-now q
+      ∙ ap (λ ys. ys ++ plays true calls-after name (sent p sends q 1)) (steps-left q)
+      ∙ ap (λ ys. plays false b.call name (frames_to w q 1) ++ ys) (nothing-played-there q d)
+      ∙ append-nil (plays false b.call name (frames_to w q 1))
+      ∙ sym (ap (λ u. plays u b.call name (frames_to w q 1)) unused)
     where
-      nothing-played-there : (q : ℕ) → q ≢ block → plays calls-after name (sent p sends q 1) ≡ []
+      nothing-played-there : (q : ℕ) → q ≢ block → plays true calls-after name (sent p sends q 1) ≡ []
       nothing-played-there q d =
-          ap (plays calls-after name) (sent-append p births tells q 1)
-          ∙ (flat_map-is-list-map (steps_of calls-after name)).of_both (sent p births q 1) (sent p tells q 1)
-          ∙ ap (λ ys. ys ++ plays calls-after name (sent p tells q 1))
-          (births-elsewhere (λ t z fs. plays calls-after name fs) (λ t z. flat_map-is-list-map _) q 1 d)
-          ∙ nothing-sent (λ t z fs. plays calls-after name fs) (λ t z. flat_map-is-list-map _) p tells
+          ap (plays true calls-after name) (sent-append p births tells q 1)
+          ∙ (flat_map-is-list-map (steps_of true calls-after name)).of_both (sent p births q 1) (sent p tells q 1)
+          ∙ ap (λ ys. ys ++ plays true calls-after name (sent p tells q 1))
+          (births-elsewhere (λ t z fs. plays true calls-after name fs) (λ t z. flat_map-is-list-map _) q 1 d)
+          ∙ nothing-sent (λ t z fs. plays true calls-after name fs) (λ t z. flat_map-is-list-map _) p tells
           (of-tells _ (λ other. refl)) q 1
 
   unborn-way : IsHere (way_sight w block)
@@ -507,27 +567,27 @@ module _ (script : Script) (sound : IsSoundScript script) (w : World) (b : Besid
 
   steps-there : (t : Bool) → nat_eq p 1 ≡ t → y.steps block ≡ (if t then Comes ∷ [] else [])
   steps-there t i =
-      made-after script p w next after-node (takes_by kind o) sends entries changes
-      (λ a z fs. plays calls-after name fs) (λ a z. flat_map-is-list-map _) block 1
-      ∙ ap (λ ys. ys ++ plays calls-after name (sent p sends block 1))
-      (left-steps script w b holds p call kind number numbers o e s next after-node sends entries changes name block
+      steps-now block
+      ∙ ap (λ ys. ys ++ plays true calls-after name (sent p sends block 1))
+      (steps-left block
       ∙ nothing-played script w b holds name unused block unborn-way later)
-      ∙ ap (plays calls-after name) (sent-append p births tells block 1)
-      ∙ (flat_map-is-list-map (steps_of calls-after name)).of_both (sent p births block 1) (sent p tells block 1)
-      ∙ ap (λ ys. plays calls-after name (sent p births block 1) ++ ys)
-      (nothing-sent (λ a z fs. plays calls-after name fs) (λ a z. flat_map-is-list-map _) p tells
+      ∙ ap (plays true calls-after name) (sent-append p births tells block 1)
+      ∙ (flat_map-is-list-map (steps_of true calls-after name)).of_both (sent p births block 1) (sent p tells block 1)
+      ∙ ap (λ ys. plays true calls-after name (sent p births block 1) ++ ys)
+      (nothing-sent (λ a z fs. plays true calls-after name fs) (λ a z. flat_map-is-list-map _) p tells
       (of-tells _ (λ other. refl)) block 1)
-      ∙ append-nil (plays calls-after name (sent p births block 1))
-      ∙ ap (λ u. plays calls-after name (frames_if (nat_eq 1 p) (frame_if u checkpoint ++ [])))
+      ∙ append-nil (plays true calls-after name (sent p births block 1))
+      ∙ ap (λ u. plays true calls-after name (frames_if (nat_eq 1 p) (frame_if u checkpoint ++ [])))
       (eq-eqb block block refl)
-      ∙ ap (λ u. plays calls-after name (frames_if u (checkpoint ∷ []))) (turned (nat_eq p 1) refl ∙ i)
+      ∙ ap (λ u. plays true calls-after name (frames_if u (checkpoint ∷ []))) (turned (nat_eq p 1) refl ∙ i)
       ∙ by-test t
     where
       turned : (u : Bool) → nat_eq p 1 ≡ u → nat_eq 1 p ≡ nat_eq p 1
       turned true g = eq-eqb 1 p (sym (eqb-true p 1 g)) ∙ sym g
       turned false g = ne_eqb 1 p (λ same. false≢true (sym g ∙ eq-eqb p 1 (sym same))) ∙ sym g
 
-      by-test : (t : Bool) → plays calls-after name (frames_if t (checkpoint ∷ [])) ≡ (if t then Comes ∷ [] else [])
+      by-test : (t : Bool) → plays true calls-after name (frames_if t (checkpoint ∷ []))
+          ≡ (if t then Comes ∷ [] else [])
       by-test true = ap (λ u. steps_if u Comes ++ []) (same-name name name refl)
       by-test false = refl
 
@@ -544,18 +604,16 @@ module _ (script : Script) (sound : IsSoundScript script) (w : World) (b : Besid
       by-test true = refl
       by-test false = refl
 
-  used-now : is_used_name forks.next name ≡ true
-  used-now = used-made b.kernel pid call reply name forks.next forks.enters
-
   none-placed : MakesNothing (λ to fs. placed_in name fs) births
   none-placed = (refl, tt)
 
-  none-ranged : MakesNothing (λ to fs. flat_map (range_steps_of calls-after name) fs) sends
+  none-ranged : MakesNothing (λ to fs. flat_map (range_steps_of true calls-after name) fs) sends
   none-ranged = of-sends _ refl (λ other. refl)
 
   is-new : IsNew script pids-now name x y block
   is-new =
       record {
+        is_body = now-body name;
         used = used-now;
         made = λ i. in-checkpoint-not (sym deed-is ∙ i);
         place_fits = ap (may_be_at false) deed-is;
@@ -568,27 +626,27 @@ module _ (script : Script) (sound : IsSoundScript script) (w : World) (b : Besid
         kept = λ q. ap (filter (is_parcel_with name)) (is-after.held (Proc q));
         hand = refl;
         belief = belief-now script w b holds p call kind number numbers o e s next after-node births entries name block
-            changes is-after unused made forks.next places-now pids-now deed-now used-now none-placed;
+            changes is-after unused made moved used-now none-placed;
         leader = ap is_some (held-now 1) ∙ sym (ne_eqb block 1 (λ one. omega (arith, later, one)));
         there = λ low. there-now;
         begins = begins-elsewhere;
         steps = steps-elsewhere;
         told = told-now script w b holds p call kind number numbers o e s next after-node births entries name block
-            changes is-after unused made forks.next places-now pids-now deed-now used-now none-placed child-there
+            changes is-after unused made moved used-now none-placed child-there
             (λ other one. omega (arith, later, one));
         found = found-now script w b holds p call kind number numbers o e s next after-node births entries name block
-            changes is-after unused made forks.next places-now pids-now deed-now used-now none-placed
+            changes is-after unused made moved used-now none-placed
             (λ flag. (refl, tt));
         unplaced = unplaced-now script w b holds p call kind number numbers o e s next after-node births entries name
-            block changes is-after unused made forks.next places-now pids-now deed-now used-now none-placed;
+            block changes is-after unused made moved used-now none-placed;
         ranged = ranged-now script w b holds p call kind number numbers o e s next after-node births entries name block
-            changes is-after unused made forks.next places-now pids-now deed-now used-now none-placed none-ranged;
+            changes is-after unused made moved used-now none-placed none-ranged;
         leased = leased-now script w b holds p call kind number numbers o e s next after-node births entries name block
-            changes is-after unused made forks.next places-now pids-now deed-now used-now none-placed none-ranged;
+            changes is-after unused made moved used-now none-placed none-ranged;
         bound = bound-now script w b holds p call kind number numbers o e s next after-node births entries name block
-            changes is-after unused made forks.next places-now pids-now deed-now used-now none-placed;
+            changes is-after unused made moved used-now none-placed;
         items = items-now script w b holds p call kind number numbers o e s next after-node births entries name block
-            changes is-after unused made forks.next places-now pids-now deed-now used-now none-placed;
+            changes is-after unused made moved used-now none-placed;
       }
     where
       in-checkpoint-not : InCheckpoint block ≡ Unmade → ⊥
@@ -635,20 +693,22 @@ module _ (script : Script) (sound : IsSoundScript script) (w : World) (b : Besid
   other-deed : (m : Name) → m ≢ name → deed-now m ≡ b.deed m
   other-deed m d = ap (λ t. if t then InCheckpoint block else b.deed m) (other-name name m (λ same. d (sym same)))
 
-  seen-now : (m : Name) → m ≢ name → (body : Body) (held_by : ℕ → Option Body) → body ≡ body_in forks.next m
+  seen-now : (m : Name) → m ≢ name → (part body : Body) (held_by : ℕ → Option Body) → part ≡ body_in forks.next m
+      → body ≡ body-now m
       → ((q : ℕ) → held_by q ≡ held_at next m q) → ((q : ℕ) → is_some (held_by q) ≡ is_some (held_at w m q))
-      → SameName (record (ready-of m) { body = body; held = held_by }) (name_sight script next [] moved m)
-  seen-now m d body held_by is held_is still =
-      other-seen script w b holds p call kind number numbers o e s next after-node sends entries changes forks.next
-      places-now pids-now deed-now name (place_if (nat_eq p 1) block) m body held_by is-after d
-      (used-others b.kernel pid call reply name forks.next forks.enters m d) (other-deed m d) is held_is still refl
-      (of-sends _ (other-name m name d) (λ other. other-name m name d))
+      → SameName (record (ready-of m) { part = part; body = body; held = held_by }) (name_sight script next [] moved m)
+  seen-now m d part body held_by part_is body_is held_is still =
+      other-seen script w b holds p call kind number numbers o e s next after-node sends entries changes moved
+      name (place_if (nat_eq p 1) block) m part body held_by is-after d
+      (used-others b.kernel pid call reply name forks.next forks.enters m d) (other-deed m d) part_is body_is held_is
+      still refl (of-sends _ (other-name m name d) (λ other. other-name m name d))
 
   name-elsewhere : (m : Name) → m ≢ name → m ≢ Proc pid
       → NameHolds script pids-now (is_born_in next) m (name_sight script next [] moved m)
   name-elsewhere m d away =
       name-stays script pids-now (is_born_in w) (is_born_in next) m _ _ more
-      (seen-now m d (body_in b.kernel m) (held_at w m) (sym (forks.rest m away d))
+      (seen-now m d (body_in b.kernel m) (b.body m) (held_at w m) (sym (forks.rest m away d))
+      (sym (process-unchanged script w [] Nothing b holds forks.next object-stays m (forks.rest m away d)))
       (λ q. sym (read-same script p w next after-node (takes_by kind o) sends entries changes
       (λ (z : Node). get_named z.deeds m)
       (get-put-other-name n.deeds (Proc pid) (parent_body s.row number) m away) q)) (λ q. refl)) (ready-more m)
@@ -665,23 +725,23 @@ module _ (script : Script) (sound : IsSoundScript script) (w : World) (b : Besid
         | inr d ↦
             held-elsewhere p q (body_in forks.next (Proc pid)) d
             ∙ sym (ap (λ (m : Node). get_named m.deeds (Proc pid)) (changes.others q d) ∙ was-held q
-            ∙ held-elsewhere p q (body_in b.kernel (Proc pid)) d)
+            ∙ held-elsewhere p q (b.body (Proc pid)) d)
       ]
     where
-      was-held : (q : ℕ) → held_at w (Proc pid) q ≡ held_as (InTable p) (body_in b.kernel (Proc pid)) q
+      was-held : (q : ℕ) → held_at w (Proc pid) q ≡ held_as (InTable p) (b.body (Proc pid)) q
       was-held q =
           let was : NameHolds script b.pids (is_born_in w) (Proc pid) (name_sight script w [] b (Proc pid)) =
           holds.names (Proc pid)
-          in was.tables q ∙ ap (λ (d : DeedPlace). held_as d (body_in b.kernel (Proc pid)) q) s.deed
+          in was.tables q ∙ ap (λ (d : DeedPlace). held_as d (b.body (Proc pid)) q) s.deed
 
   parent-name-now : NameHolds script pids-now (is_born_in next) (Proc pid) (name_sight script next [] moved (Proc pid))
   parent-name-now =
       let m : Name = Proc pid
       in let body : Body = body_in forks.next m
       in name-stays script pids-now (is_born_in w) (is_born_in next) m _ _ more
-      (seen-now m (λ same. not-parent (sym same)) body (held_as (b.deed m) body) refl
+      (seen-now m (λ same. not-parent (sym same)) body body (held_as (b.deed m) body) refl refl
       (λ q. ap (λ (d : DeedPlace). held_as d body q) s.deed ∙ parent-held q) still)
-      (name-rebodied script pids-now (is_born_in w) m (ready-of m) p body s.deed (ready-more m))
+      (name-rebodied script pids-now (is_born_in w) m (ready-of m) p body body (now-body m) s.deed (ready-more m))
     where
       same-some : (t : Bool) (a c : Body) → is_some (if t then Some a else None) ≡ is_some (if t then Some c else None)
       same-some true a c = refl
@@ -694,9 +754,9 @@ module _ (script : Script) (sound : IsSoundScript script) (w : World) (b : Besid
           let was : NameHolds script b.pids (is_born_in w) (Proc pid) (name_sight script w [] b (Proc pid)) =
           holds.names (Proc pid)
           in ap (λ (d : DeedPlace). is_some (held_as d (body_in forks.next (Proc pid)) q)) s.deed
-          ∙ same-some (nat_eq p q) (body_in forks.next (Proc pid)) (body_in b.kernel (Proc pid))
+          ∙ same-some (nat_eq p q) (body_in forks.next (Proc pid)) (b.body (Proc pid))
           ∙ sym (ap is_some (was.tables q)
-          ∙ ap (λ (d : DeedPlace). is_some (held_as d (body_in b.kernel (Proc pid)) q)) s.deed)
+          ∙ ap (λ (d : DeedPlace). is_some (held_as d (b.body (Proc pid)) q)) s.deed)
 
   -- each name holds
   names-now : (m : Name) → NameHolds script pids-now (is_born_in next) m (name_sight script next [] moved m)
@@ -726,10 +786,10 @@ module _ (script : Script) (sound : IsSoundScript script) (w : World) (b : Besid
   own-call-now : CallHolds script p (is_born_in next) (call_sight next [] moved p)
   own-call-now =
       call-after script w b holds p call kind number numbers o e s next after-node sends reply forks.next changes
-      (is_born_in next) places-now pids-now deed-now forks.caller.alive name (place_if (nat_eq p 1) block) is-after refl
+      (is_born_in next) moved forks.caller.alive name (place_if (nat_eq p 1) block) is-after refl
       s.stage (ap (get places-now) (now-same p s.birth.forked) ∙ fork-moves.parent)
       (ap (living_at forks.next) (now-same p s.birth.forked) ∙ forks.caller.lives)
-      (of-sends _ refl (λ other. refl))
+      (λ m. waiters-of p m ∙ s.not_waiting m) (of-sends _ refl (λ other. refl))
 
   block-low : 1 ≤ block
   block-low = omega (arith, later)
@@ -761,6 +821,7 @@ module _ (script : Script) (sound : IsSoundScript script) (w : World) (b : Besid
                 held_for_names = λ m. ap (filter (is_item_about block)) (is-after.held m)
                     ∙ was.nowhere.held_for_names m;
                 in_hand = refl;
+                waiting = λ m. waiters-of block m ∙ was.nowhere.waiting m;
               };
               idle = calls-still block block-apart ∙ was.idle;
               free = subst (λ (st : Stage). FreeIn script block v st) (sym (ap (λ (m : Node). m.stage) node)) tt;
@@ -784,6 +845,7 @@ module _ (script : Script) (sound : IsSoundScript script) (w : World) (b : Besid
         call_is = calls-still c d;
         held_is = λ m. ap (filter (is_item_about c)) (is-after.held m);
         hand_is = refl;
+        waiters_are = λ m. waiters-of c m;
       }) (taken-of-no-other kind p o c d) (of-sends _ refl (λ other. refl)))
       (call-goes-on script c (is_born_in w) (call_sight w [] b c) (living_at forks.next (b.pids c))
       (others-go-on script b.kernel b.places b.pids p block number s.row (child_vars place) forks.next places-now leaves
@@ -807,6 +869,109 @@ module _ (script : Script) (sound : IsSoundScript script) (w : World) (b : Besid
                   subst (λ z. CallHolds script z (is_born_in next) (call_sight next [] moved z)) (sym same)
                   block-call-now
               | inr away ↦ other-call-now c low high d away
+            ]
+      ]
+
+  -- ---- the kernel in which callers wait, and withdrawals
+
+  others-live-on : (q : ℕ) → q ≢ pid → q ≢ number → StillLives (living_at b.kernel q) (living_at forks.next q)
+  others-live-on q other new =
+      others-go-on script b.kernel b.places b.pids p block number s.row
+      (child_vars place) forks.next places-now leaves q
+      other new
+
+  apart : (c : ℕ) → c ≢ p → b.pids c ≢ pid
+  apart c d same = d (sym (holds.pids.apart p c s.birth.forked (sym same)))
+
+  free : after-node.caller.under_way ≡ None
+  free = free-after script w b holds p call kind number numbers o e s next after-node sends reply forks.next changes
+      refl
+
+  block-idle : under_way_at next block ≡ None
+  block-idle =
+      ap (λ (m : Node). m.caller.under_way)
+      (changes.others block block-apart ∙ is-unborn script w b holds block block-low from.high unforked)
+
+  new-process : IsNewProcess next b.kernel block (pids-now block) pid
+  new-process =
+      record {
+        no_call = block-idle;
+        other = λ same. forks.apart (sym child-there ∙ same);
+        nobody = ap (living_at b.kernel) child-there ∙ ap (option_and_then kernel.alive_in) forks.absent;
+      }
+
+  enters-whole : EntersAlone w next b moved p p call (Some reply)
+  enters-whole =
+      made-enters script w b holds p call kind number numbers o e s reply forks.next forks.enters.makes next
+      after-node sends changes (record b { pids = pids-now; deed = deed-now; body = body-now }) free
+      (λ m. (now-body m).parts) waiters-same (now-same p s.birth.forked)
+      (λ y d. elim (cases_eq y block) [
+        | inl same ↦
+            inr (subst (λ z. IsNewProcess next b.kernel z (pids-now z) pid) (sym same) new-process)
+        | inr away ↦ inl (with-pid-other b.pids block number y away, apart y d)
+      ])
+      (λ y d same dead. (others-live-on (b.pids y) (apart y d) (not-child y)).dead dead)
+
+  own-cancel-now : CancelHolds p Nothing (cancel_sight next [] moved p)
+  own-cancel-now =
+      cancel-after script w b holds p call kind number numbers o e s next after-node sends reply forks.next changes
+      moved name (place_if (nat_eq p 1) block) is-after refl refl refl (of-sends _ refl (λ other. refl))
+
+  -- the block's node has no call
+  block-cancel-now : CancelHolds block Nothing (cancel_sight next [] moved block)
+  block-cancel-now =
+      let was : CancelHolds block Nothing (cancel_sight w [] b block) = holds.cancels block block-low from.high
+      in let node : node_of next block ≡ node_of w block = changes.others block block-apart
+      in cancel-over block Nothing Nothing (cancel_sight w [] b block) (cancel_sight next [] moved block)
+      (old-still script p w next after-node (takes_by kind o) sends entries changes [] [] b moved block
+      (sym (ap (λ (m : Node). m.pid) node))
+      (let same : (node_of next block).caller.ticket ≡ (node_of w block).caller.ticket =
+      ap (λ (m : Node). m.caller.ticket) node in omega (arith, same))
+      (λ m. ap (filter (is_held_cancel_of block)) (is-after.held m)) refl (taken-no-cancel kind o block)
+      (of-sends _ refl (λ other. refl)))
+      (idle-uncancelled block Nothing (cancel_sight w [] b block) was
+      (sym (ap (λ (m : Node). m.caller.under_way) node) ∙ block-idle))
+      (inl block-idle) (λ owed. absurd (false≢true owed)) was
+
+  other-cancel-now : (c : ℕ) → 1 ≤ c → c ≤ node_count script → c ≢ p → c ≢ block
+      → CancelHolds c Nothing (cancel_sight next [] moved c)
+  other-cancel-now c low high d away =
+      other-withdrawal w next b moved p p call (Some reply) holds.whole enters-whole c d
+      (with-pid-other b.pids block number c away) (apart c d)
+      (λ a lives. forks.rest (Proc (b.pids c)) (λ same. apart c d (process-same (b.pids c) pid same))
+      (λ same. not-child c (process-same (b.pids c) number same))) [] [] Nothing
+      (cancel-left-alone script p w next after-node (takes_by kind o) sends entries changes [] [] b moved c
+      (record {
+        own = λ same. absurd (d same);
+        call_is = calls-still c d;
+        cancel_is = refl;
+        held_is = λ m. ap (filter (is_item_of c)) (is-after.held m);
+        hand_is = refl;
+        nowhere = λ under_way is may l. record {
+          node = l.node;
+          is = calls-still c d ∙ l.is;
+          leaves = ap is_none (is-after.partings l.node) ∙ l.leaves;
+          unknown = still-unknown script pids-now (is_born_in next) next [] moved
+              (waits_at (node_of w c).pid under_way) (names-now (waits_at (node_of w c).pid under_way))
+              (used-others b.kernel pid call reply name forks.next forks.enters (waits_at (node_of w c).pid under_way)
+              (λ same. false≢true (sym (ap is_object same) ∙ second (may_park under_way) _ may))
+              ∙ nowhere-unused script w [] Nothing b holds c low high under_way is may l);
+        };
+      }) (taken-of-no-other kind p o c d) (of-sends _ refl (λ other. refl)) (taken-no-cancel kind o c)
+      (of-sends _ refl (λ other. refl))) (holds.cancels c low high)
+    where
+      second : (t u : Bool) → (t && u) ≡ true → u ≡ true
+      second true u h = h
+      second false u h = absurd (false≢true h)
+
+  cancels-hold : (c : ℕ) → 1 ≤ c → c ≤ node_count script → CancelHolds c Nothing (cancel_sight next [] moved c)
+  cancels-hold c low high =
+      elim (cases_eq c p) [
+        | inl same ↦ subst (λ z. CancelHolds z Nothing (cancel_sight next [] moved z)) (sym same) own-cancel-now
+        | inr d ↦
+            elim (cases_eq c block) [
+              | inl same ↦ subst (λ z. CancelHolds z Nothing (cancel_sight next [] moved z)) (sym same) block-cancel-now
+              | inr away ↦ other-cancel-now c low high d away
             ]
       ]
 
@@ -923,6 +1088,7 @@ module _ (script : Script) (sound : IsSoundScript script) (w : World) (b : Besid
           shape = changes.shape;
           history = history-after script w b holds p call kind number numbers o e s next after-node sends reply
               forks.next changes forks.enters.makes;
+          whole = has-whole-then w next b moved p p call (Some reply) holds.whole enters-whole;
           leading = is-after.leads;
           pids = pids-forked script b.kernel b.places b.pids p block number s.row (child_vars place) forks.next
               places-now leaves holds.pids;
@@ -930,6 +1096,7 @@ module _ (script : Script) (sound : IsSoundScript script) (w : World) (b : Besid
           frames_fit = frames-hold;
           names = names-now;
           calls = calls-hold;
+          cancels = cancels-hold;
           ways = ways-hold;
           parcels = parcels-hold;
           kinds = kinds-now script w b holds p call kind number numbers o e s next after-node sends

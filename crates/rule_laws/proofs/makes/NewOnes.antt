@@ -11,6 +11,7 @@ use Rattle.node_model.specs.Kinds.{is_object}
 use Rattle.world_laws.specs.Places.{DeedPlace, InCheckpoint, InExitTo, InGiveBack, InGrant, InHand, InKept, InLeft, InTable, Unmade}
 use Rattle.world_laws.specs.Plays.{Nowhere, Somewhere, believed, finds_place, is_there, told}
 use Rattle.world_laws.specs.Names.{HasMakerThatStays, IsBringer, IsExitOf, IsItemFor, IsItemWith, IsLeftOf, IsTold, NameHolds, NameSight, OneIf, PlaysTo, RangeStep, SaysOf, IsSentThere, belief_of, forker, held_as, is_hand_place, is_kept_for, is_nowhere, is_stream_of, leases_first, maker_tells, may_be_at, node_in}
+use Rattle.rule_laws.proofs.own.Rebodied.{IsBodyOf}
 use Rattle.rule_laws.proofs.own.NewNames.{is-unplaced, nobody-in}
 
 -- ---- a name that nothing has
@@ -70,6 +71,7 @@ module _ (script : Script) (pids : ℕ → ℕ) (born : ℕ → Bool) (name : Na
 
 -- Where its deed is, with nothing kept; who believes it where; and that the play of each node ends so.
 pub record IsNew (script : Script) (pids : ℕ → ℕ) (name : Name) (x y : NameSight) (at : ℕ) : Type 0 where
+  pub is_body : IsBodyOf script y.part y.body
   pub used : y.used ≡ true
   pub made : y.deed ≡ Unmade → ⊥
   pub place_fits : may_be_at (is_object name) y.deed ≡ true
@@ -104,6 +106,8 @@ pub name-new : (script : Script) (pids now : ℕ → ℕ) (born more : ℕ → B
     → NameHolds script now more name y
 name-new script pids now born more name x y at h unused v =
     record {
+      parts = v.is_body.parts;
+      callers = v.is_body.callers;
       made = (λ e. absurd (v.made e), λ u. absurd (false≢true (sym u ∙ v.used)));
       place_fits = v.place_fits;
       tables = v.tables;
@@ -150,6 +154,8 @@ pub name-ready : (script : Script) (pids : ℕ → ℕ) (born : ℕ → Bool) (n
 name-ready script pids born name x maker ranges (inl same) fewer first h =
     subst (λ o. NameHolds script pids born name (record x { maker = o; ranges = ranges })) same
     (record {
+      parts = h.parts;
+      callers = h.callers;
       made = h.made;
       place_fits = h.place_fits;
       tables = h.tables;
@@ -170,6 +176,8 @@ name-ready script pids born name x maker ranges (inl same) fewer first h =
     })
 name-ready script pids born name x maker ranges (inr new) fewer first h =
     record {
+      parts = h.parts;
+      callers = h.callers;
       made = h.made;
       place_fits = h.place_fits;
       tables = h.tables;
@@ -267,6 +275,8 @@ module _ (script : Script) (pids now : ℕ → ℕ) (born : ℕ → Bool) (name 
   pub name-with-more : NameHolds script now born name x
   name-with-more =
       record {
+        parts = h.parts;
+        callers = h.callers;
         made = h.made;
         place_fits = h.place_fits;
         tables = h.tables;

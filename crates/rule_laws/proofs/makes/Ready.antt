@@ -13,8 +13,6 @@ use Rattle.pico_base.specs.declared.script.Event.{Event}
 use Rattle.pico_base.specs.declared.script.Script.{Script}
 use Rattle.rpc_frame.specs.declared.frame.Frame.{Frame}
 use Rattle.rpc_frame.specs.declared.frame.Frame.TheVariants as frames
-use Rattle.kernel_model.specs.Kernel.{Kernel}
-use Rattle.kernel_model.specs.Fitting.{Places}
 use Rattle.entry_laws.specs.Entering.{is_used_name}
 use Rattle.node_model.specs.Bodies.{Body, body_in}
 use Rattle.node_model.specs.Directory.{Directory, Place, is_parcel_with, maker, maker_in, with_range}
@@ -22,7 +20,7 @@ use Rattle.node_model.specs.Kinds.{for_kind, is_same_kind, kind_of, number_of}
 use Rattle.world_model.specs.Census.{brings}
 use Rattle.world_model.specs.Node.{Node}
 use Rattle.world_model.specs.World.{World}
-use Rattle.world_laws.specs.Places.{Beside, CallPlace, DeedPlace, Idle, call_in}
+use Rattle.world_laws.specs.Places.{Beside, CallPlace, Idle, call_in}
 use Rattle.world_laws.specs.Sights.{directory_of, frames_to, is_born_in, stage_of}
 use Rattle.world_laws.specs.Plays.{begin, has_any, is_checkpoint_of, news, placed_in, plays}
 use Rattle.world_laws.specs.Names.{IsLeased, IsSentThere, NameHolds, NameSight, RangeStep, comes_to, forker, held_at, is_maker, leases_first, leases_name, name_sight, range_steps_if, range_steps_of}
@@ -106,19 +104,19 @@ all-leased [] ys all = refl
 all-leased (x ∷ xs) ys all = ap (λ r. leases_first (r ∷ (xs ++ ys))) all.0 ∙ all-leased xs ys all.1
 
 -- only a lease is taken
-leased-taken : (call : ℕ → CallPlace) (m : Name) (p : ℕ) (kind : Kind) (o : Origin) (h : ℕ)
-    → AllByRecursion (λ r. r ≡ IsLeased) (flat_map (range_steps_of call m) (taken p (takes_by kind o) h 1))
-leased-taken call m p kind InLease h = none (nat_eq h p)
+leased-taken : (used : Bool) (call : ℕ → CallPlace) (m : Name) (p : ℕ) (kind : Kind) (o : Origin) (h : ℕ)
+    → AllByRecursion (λ r. r ≡ IsLeased) (flat_map (range_steps_of used call m) (taken p (takes_by kind o) h 1))
+leased-taken used call m p kind InLease h = none (nat_eq h p)
   where
-    none : (t : Bool) → AllByRecursion (λ r. r ≡ IsLeased) (flat_map (range_steps_of call m) (frames_if t []))
+    none : (t : Bool) → AllByRecursion (λ r. r ≡ IsLeased) (flat_map (range_steps_of used call m) (frames_if t []))
     none true = tt
     none false = tt
-leased-taken call m p kind Next h = none (nat_eq h p)
+leased-taken used call m p kind Next h = none (nat_eq h p)
   where
-    none : (t : Bool) → AllByRecursion (λ r. r ≡ IsLeased) (flat_map (range_steps_of call m) (frames_if t []))
+    none : (t : Bool) → AllByRecursion (λ r. r ≡ IsLeased) (flat_map (range_steps_of used call m) (frames_if t []))
     none true = tt
     none false = tt
-leased-taken call m p kind (Comes first) h = one (nat_eq h p) (leases_name m kind first)
+leased-taken used call m p kind (Comes first) h = one (nat_eq h p) (leases_name m kind first)
   where
     step-is : (u : Bool) → AllByRecursion (λ r. r ≡ IsLeased) (range_steps_if u IsLeased ++ [])
     step-is true = (refl, tt)
@@ -126,7 +124,7 @@ leased-taken call m p kind (Comes first) h = one (nat_eq h p) (leases_name m kin
 
     one : (t u : Bool)
         → AllByRecursion (λ r. r ≡ IsLeased)
-        (flat_map (range_steps_of call m) (frames_if t (frames.Lease kind first ∷ [])))
+        (flat_map (range_steps_of used call m) (frames_if t (frames.Lease kind first ∷ [])))
     one true u = step-is (leases_name m kind first)
     one false u = tt
 
@@ -161,14 +159,15 @@ module _ (script : Script) (w : World) (b : Beside) (holds : Holds script w [] b
       stayed script p w next n (takes_by kind o) sends entries c f m (nothing-by kind (f p) none o) to sender
 
   -- so the play of a name is as it was, but for what is sent
-  pub left-steps : (m : Name) (h : ℕ) → plays calls-now m (c.left h 1) ≡ plays b.call m (frames_to w h 1)
-  left-steps m h =
-      plays-of-others b.call calls-now p others-same m h 1 (c.left h 1) (left-alone h 1)
-      ∙ left-same (λ t q fs. plays b.call m fs) (λ t q. flat_map-is-list-map _) (λ first. refl) h 1
+  pub left-steps : (used : Bool) (m : Name) (h : ℕ)
+      → plays used calls-now m (c.left h 1) ≡ plays used b.call m (frames_to w h 1)
+  left-steps used m h =
+      plays-of-others used b.call calls-now p others-same m h 1 (c.left h 1) (left-alone h 1)
+      ∙ left-same (λ t q fs. plays used b.call m fs) (λ t q. flat_map-is-list-map _) (λ first. refl) h 1
 
   -- the leases and the calls by range that are left of a name
   abbrev pub ranges-left : Name → ℕ → List RangeStep
-  ranges-left m h = flat_map (range_steps_of calls-now m) (c.left h 1)
+  ranges-left m h = flat_map (range_steps_of (is_used_name b.kernel m) calls-now m) (c.left h 1)
 
   -- the name where its number is made ready
   abbrev pub ready-name : Name → NameSight
@@ -178,13 +177,14 @@ module _ (script : Script) (w : World) (b : Beside) (holds : Holds script w [] b
         ranges = ranges-left m;
       }
 
-  ranges-were : (m : Name) (h : ℕ) → flat_map (range_steps_of b.call m) (frames_to w h 1)
-      ≡ flat_map (range_steps_of b.call m) (taken p (takes_by kind o) h 1) ++ ranges-left m h
+  ranges-were : (m : Name) (h : ℕ) → flat_map (range_steps_of (is_used_name b.kernel m) b.call m) (frames_to w h 1)
+      ≡ flat_map (range_steps_of (is_used_name b.kernel m) b.call m) (taken p (takes_by kind o) h 1) ++ ranges-left m h
   ranges-were m h =
       made-before script p w next n (takes_by kind o) sends entries c
-      (λ t q fs. flat_map (range_steps_of b.call m) fs) (λ t q. flat_map-is-list-map _) h 1
-      ∙ ap (λ rs. flat_map (range_steps_of b.call m) (taken p (takes_by kind o) h 1) ++ rs)
-      (sym (ranges-of-all-others b.call calls-now p others-same m h 1 (c.left h 1) (left-alone h 1)))
+      (λ t q fs. flat_map (range_steps_of (is_used_name b.kernel m) b.call m) fs) (λ t q. flat_map-is-list-map _) h 1
+      ∙ ap (λ rs. flat_map (range_steps_of (is_used_name b.kernel m) b.call m) (taken p (takes_by kind o) h 1) ++ rs)
+      (sym (ranges-of-all-others (is_used_name b.kernel m) b.call calls-now p others-same m h 1 (c.left h 1)
+      (left-alone h 1)))
 
   -- all holds of each name so
   pub name-is-ready : (m : Name) → NameHolds script b.pids (is_born_in w) m (ready-name m)
@@ -192,10 +192,13 @@ module _ (script : Script) (w : World) (b : Beside) (holds : Holds script w [] b
       name-ready script b.pids (is_born_in w) m (name_sight script w [] b m)
       (maker (directory_by (directory_of w) kind o) m) (ranges-left m) (makers-by script w b holds kind m o)
       (λ h there. subst (λ rs. Contains rs IsSentThere) (sym (ranges-were m h))
-      (Contains-append_right (flat_map (range_steps_of b.call m) (taken p (takes_by kind o) h 1)) (ranges-left m h)
+      (Contains-append_right (flat_map (range_steps_of (is_used_name b.kernel m) b.call m) (taken p
+      (takes_by kind o) h 1)) (ranges-left m h)
       IsSentThere there))
-      (λ h first. sym (all-leased (flat_map (range_steps_of b.call m) (taken p (takes_by kind o) h 1))
-      (ranges-left m h) (leased-taken b.call m p kind o h)) ∙ ap leases_first (sym (ranges-were m h)) ∙ first)
+      (λ h first. sym (all-leased (flat_map (range_steps_of (is_used_name b.kernel m) b.call m) (taken p
+      (takes_by kind o) h 1))
+      (ranges-left m h) (leased-taken (is_used_name b.kernel m) b.call m p kind o h))
+      ∙ ap leases_first (sym (ranges-were m h)) ∙ first)
       (holds.names m)
 
   -- where nothing has a name it doesn't matter who makes it
@@ -212,21 +215,27 @@ module _ (script : Script) (w : World) (b : Beside) (holds : Holds script w [] b
 
   -- ---- a name that no frame is about
 
+  -- What stands beside the world afterwards: its call is over.
+  abbrev pub made_beside : Beside → Beside
+  made_beside b' = record b' { call = calls-now }
+
   -- it is seen with this body where it is held, and else as when its number is ready
-  pub other-seen : (k : Kernel) (places : Places) (pids : ℕ → ℕ) (deed : Name → DeedPlace) (name : Name)
-      (place : Option Place) (m : Name) (body : Body) (held : ℕ → Option Body)
+  pub other-seen : (b' : Beside) (name : Name)
+      (place : Option Place) (m : Name) (part body : Body) (held : ℕ → Option Body)
       → IsAfter (directory_of w) (directory_by (directory_of w) kind o) (directory_of next) name place → m ≢ name
-      → is_used_name k m ≡ is_used_name b.kernel m → deed m ≡ b.deed m → body ≡ body_in k m
+      → is_used_name b'.kernel m ≡ is_used_name b.kernel m → b'.deed m ≡ b.deed m → part ≡ body_in b'.kernel m
+      → body ≡ b'.body m
       → ((q : ℕ) → held q ≡ held_at next m q) → ((q : ℕ) → is_some (held q) ≡ is_some (held_at w m q))
       → n.stage ≡ stage_of w p → AreNotAbout m sends
-      → SameName (record (ready-name m) { body = body; held = held })
-      (name_sight script next [] (record { kernel = k; places = places; pids = pids; deed = deed; call = calls-now }) m)
-  other-seen k places pids deed name place m body held a other used deed_is body_is held_is still stage none =
+      → SameName (record (ready-name m) { part = part; body = body; held = held })
+      (name_sight script next [] (made_beside b') m)
+  other-seen b' name place m part body held a other used deed_is part_is body_is held_is still stage none =
       record {
         place = sym (a.others m other);
         maker = sym (a.makers m);
         stays = λ q. sym (ap is_none (a.partings q));
         used = sym used;
+        part = part_is;
         body = body_is;
         deed = sym deed_is;
         held = held_is;
@@ -235,12 +244,16 @@ module _ (script : Script) (w : World) (b : Beside) (holds : Holds script w [] b
         kept = λ q. sym (ap (filter (is_parcel_with m)) (a.held (Proc q)));
         hand = refl;
         begins = begins-same;
-        steps = λ h. sym (only-stayed script p w next n (takes_by kind o) sends entries c
-            (λ t q fs. plays calls-now m fs) (λ t q. flat_map-is-list-map _)
-            (all-weaker (λ x. no-steps calls-now m x.1) sends none) h 1 ∙ left-steps m h);
-        ranges = λ h. sym (only-stayed script p w next n (takes_by kind o) sends entries c
-            (λ t q fs. flat_map (range_steps_of calls-now m) fs) (λ t q. flat_map-is-list-map _)
-            (all-weaker (λ x. no-ranges calls-now m x.1) sends none) h 1);
+        steps = λ h. sym (ap (λ u. plays u calls-now m (frames_to next h 1)) used
+            ∙ only-stayed script p w next n (takes_by kind o) sends entries c
+            (λ t q fs. plays (is_used_name b.kernel m) calls-now m fs) (λ t q. flat_map-is-list-map _)
+            (all-weaker (λ x. no-steps (is_used_name b.kernel m) calls-now m x.1) sends none) h 1
+            ∙ left-steps (is_used_name b.kernel m) m h);
+        ranges = λ h. sym (ap (λ u. flat_map (range_steps_of u calls-now m) (frames_to next h 1)) used
+            ∙ only-stayed script p w next n (takes_by kind o) sends entries c
+            (λ t q fs. flat_map (range_steps_of (is_used_name b.kernel m) calls-now m) fs)
+            (λ t q. flat_map-is-list-map _)
+            (all-weaker (λ x. no-ranges (is_used_name b.kernel m) calls-now m x.1) sends none) h 1);
         placed = λ q. sym (same (λ t q fs. placed_in m fs) (λ t q. flat_map-is-list-map _) (λ first. refl)
             (all-weaker (λ x. no-places m x.1) sends none) 1 q);
         news = news-same;
@@ -269,7 +282,7 @@ module _ (script : Script) (w : World) (b : Beside) (holds : Holds script w [] b
 
       news-same : (q : ℕ)
           → news m (is_used_name b.kernel m && is_maker (maker (directory_of w) m) q) (frames_to w 1 q)
-          ≡ news m (is_used_name k m && is_maker (maker (directory_of next) m) q) (frames_to next 1 q)
+          ≡ news m (is_used_name b'.kernel m && is_maker (maker (directory_of next) m) q) (frames_to next 1 q)
       news-same q =
           ap (λ t. news m t (frames_to w 1 q)) (flag-same m q)
           ∙ sym (ap (λ u. news m (u && is_maker (maker (directory_of next) m) q) (frames_to next 1 q)) used

@@ -17,7 +17,10 @@ use Rattle.kernel_model.specs.Fitting.{IsDue}
 use Rattle.kernel_model.specs.Row.{Row}
 use Rattle.kernel_laws.proofs.Members.{contains-first, contains-none}
 use Rattle.entry_laws.specs.Entering.{MayMake}
-use Rattle.node_model.specs.Bodies.{Living as LivingBody}
+use Rattle.waiting_model.specs.Kernel.{living_at as whole_living}
+use Rattle.waiting_model.specs.Marks.{Alive as WholeAlive}
+use Rattle.waiting_model.specs.Transition.{may_make as whole_may}
+use Rattle.node_model.specs.Bodies.{Living as LivingBody, waiters_of}
 use Rattle.node_model.specs.Caller.{Caller, caller_place}
 use Rattle.node_model.specs.Directory.{Directory, held_for, maker_in, max_ranges, with_range}
 use Rattle.node_model.specs.Kinds.{for_kind, get_named, is_same_kind, with_kind}
@@ -27,9 +30,9 @@ use Rattle.world_model.specs.Numbers.{make_with}
 use Rattle.world_model.specs.Step.{Step, step_to}
 use Rattle.world_model.specs.World.{World, node_count}
 use Rattle.world_laws.specs.ByRules.{step_by_rules}
-use Rattle.world_laws.specs.Places.{Beside, Idle, InTable, call_in}
+use Rattle.world_laws.specs.Places.{Beside, Idle, InTable, NoCancel, call_in}
 use Rattle.world_laws.specs.Sights.{directory_of, frames_to, is_born_in, node_of}
-use Rattle.world_laws.specs.Callers.{HasTryLeft, is_about, is_item_about, tries_made}
+use Rattle.world_laws.specs.Callers.{HasTryLeft, is_about, is_item_about, is_waiter_of, tries_made}
 use Rattle.world_laws.specs.Families.{IsBorn}
 use Rattle.world_laws.specs.Ranges.{IsRangeOf, IsRestOf, KindHolds, KindSight, has_lease, is_given, is_in_lease, kind_sight, leases_on_way}
 use Rattle.world_laws.proofs.Changes.{Changes, taken}
@@ -100,12 +103,17 @@ pub record Source (script : Script) (w : World) (b : Beside) (p : ℕ) (call : C
   pub there : get b.places (b.pids p) ≡ Some (caller_place script p caller)
   pub is_due : IsDue (caller_place script p caller) call
   pub may : MayMake b.kernel (b.pids p) call
+  -- in the kernel in which callers wait it may be made, too, and nobody has withdrawn it
+  pub may_whole : (a : WholeAlive) → whole_living b.whole (b.pids p) ≡ Some a → whole_may a call ≡ true
+  pub uncancelled : b.cancel p ≡ NoCancel
+  pub older : let m : Node = node_of w p in m.caller.ticket ≤ caller.ticket
   pub tickets : caller.ticket ≤ tries_made script p caller + 1
   pub try_left : HasTryLeft script p caller
   pub about : (to sender : ℕ)
       → filter (is_about p to sender) (frames_to w to sender)
       ≡ filter (is_about p to sender) (taken p (takes_by kind o) to sender)
   pub not_held : (name : Name) → filter (is_item_about p) (held_for (directory_of w) name) ≡ []
+  pub not_waiting : (name : Name) → filter (is_waiter_of p) (waiters_of (b.body name)) ≡ []
   pub other_kinds : (y : Kind) → is_same_kind y kind ≡ false → has_lease y (b.call p) ≡ false
   -- the numbers
   pub at_leader : p ≢ 1 → directory_by (directory_of w) kind o ≡ directory_of w
@@ -116,7 +124,7 @@ pub record Source (script : Script) (w : World) (b : Beside) (p : ℕ) (call : C
       ≤ length w.journal + leases_on_way script (call_in b.call p Idle) kind + 2
   pub enough : length (for_kind (directory_by (directory_of w) kind o).ranges kind) ≤ max_ranges
   -- the step
-  pub gives : (after : Step) → AreToNodes (node_count script) after.sends
+  pub gives : (after : Step) → AreToNodes (node_count script) after.sends → after.strikes ≡ false
       → make_with script (step_to (ready_node (node_of w p) caller kind numbers o)) call number ≡ Some after
       → Gives script w p e (takes_by kind o) after
 

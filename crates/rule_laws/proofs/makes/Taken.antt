@@ -1,8 +1,8 @@
 -- A number that a call takes, whatever its source: nothing has it, it is the node's, and nobody knows a name with
 -- it. And what the call's entry leaves of the history, of the keys, and of the call itself.
-use Rattle.std.proofs.Common.{◌≡◌, ◌≢◌, ℕ, ◌≤◌, Bool, true, false, if◌then◌else◌, List, [], ◌∷◌, filter, flat_map, Option, Some, None, refl, ap, sym, subst, ◌∙◌, arith}
+use Rattle.std.proofs.Common.{◌≡◌, ◌≢◌, ℕ, ◌≤◌, Bool, true, false, if◌then◌else◌, List, [], ◌∷◌, ◌++◌, filter, flat_map, Option, Some, None, refl, ap, sym, subst, ◌∙◌, inl, arith}
 use Rattle.std.specs.List.{AllByRecursion}
-use Rattle.std.proofs.lemmas.Bool.{eq-eqb, ne_eqb}
+use Rattle.std.proofs.lemmas.Bool.{eq-eqb, ne_eqb, false≢true}
 use Rattle.pico_base.specs.declared.call.Call.{Call}
 use Rattle.pico_base.specs.declared.numbers.Kind.{Kind}
 use Rattle.pico_base.specs.declared.numbers.Name.{Name}
@@ -12,7 +12,7 @@ use Rattle.pico_base.specs.declared.script.Event.{Event}
 use Rattle.pico_base.specs.declared.script.Script.{Script}
 use Rattle.rpc_frame.specs.declared.frame.Frame.{Frame}
 use Rattle.number_maps.specs.Maps.{get, is_used}
-use Rattle.kernel_model.specs.Fitting.{Place, Places, place_after, places_after}
+use Rattle.kernel_model.specs.Fitting.{Place, place_after, places_after}
 use Rattle.kernel_model.specs.Footprint.{used_of}
 use Rattle.kernel_model.specs.Kernel.{Kernel, living_at}
 use Rattle.kernel_model.specs.Numbers.{is_positive_u32}
@@ -20,26 +20,31 @@ use Rattle.kernel_model.specs.Row.{Alive}
 use Rattle.entry_laws.specs.Entering.{HasHistory, HasKeys, KeepsKeys, Makes, is_used_name}
 use Rattle.entry_laws.proofs.History.{history-goes-on}
 use Rattle.entry_laws.proofs.Keys.{keys-kept}
-use Rattle.node_model.specs.Caller.{answer_call, caller_place}
+use Rattle.node_model.specs.Bodies.{waiters_of}
+use Rattle.node_model.specs.Caller.{Caller, answer_call, caller_place}
 use Rattle.node_model.specs.Directory.{Place as DirectoryPlace, maker, maker_in, place_of}
 use Rattle.node_model.specs.Kinds.{for_kind, kind_of, number_of}
 use Rattle.node_model.specs.Entries.{entry_by}
 use Rattle.world_model.specs.Node.{Leader, Living, Node}
 use Rattle.world_model.specs.World.{World, node_count}
-use Rattle.world_laws.specs.Places.{Beside, CallPlace, DeedPlace, Idle}
+use Rattle.world_laws.specs.Places.{Beside, Idle}
 use Rattle.world_laws.specs.Sights.{directory_of, frames_to, is_born_in, node_of}
-use Rattle.world_laws.specs.Callers.{CallHolds, CallSight, call_sight, is_about, is_item_about}
+use Rattle.world_laws.specs.Callers.{CallHolds, HasTries, call_sight, is_about, is_item_about, is_waiter_of}
+use Rattle.world_laws.specs.Cancels.{CancelHolds, Nothing, cancel_sight, is_cancel_of, is_held_cancel_of}
 use Rattle.world_laws.specs.Invariant.{Holds}
 use Rattle.world_laws.specs.Names.{name_sight}
 use Rattle.world_laws.specs.Ranges.{KeysHold, KindSight, kind_sight, lease_at, lease_in}
 use Rattle.world_laws.proofs.Changes.{Changes, filter-is-list-map, only-stayed, read-same}
+use Rattle.world_laws.proofs.Lines.{IsAnswered}
+use Rattle.world_laws.proofs.Replied.{cancel-over}
 use Rattle.world_laws.proofs.Frames.{ArePlain, BringNoBirth, all-weaker, not-about}
+use Rattle.rule_laws.proofs.Withdrawals.{old-still}
 use Rattle.rule_laws.proofs.own.Made.{number-is-low}
 use Rattle.rule_laws.proofs.own.NewNumbers.{taken-maker, taken-unused}
-use Rattle.rule_laws.proofs.makes.CallsOver.{call-over}
+use Rattle.rule_laws.proofs.makes.CallsOver.{call-over, is-answered}
 use Rattle.rule_laws.proofs.makes.Directories.{IsAfter}
 use Rattle.rule_laws.proofs.makes.NewOnes.{nothing-known}
-use Rattle.rule_laws.proofs.makes.Ready.{calls-now, left-alone}
+use Rattle.rule_laws.proofs.makes.Ready.{left-alone, made_beside}
 use Rattle.rule_laws.proofs.makes.Sources.{Comes, InLease, Next, Origin, Source, directory_by, ready_kind, takes_by}
 
 -- ---- the frame that brought it
@@ -62,6 +67,13 @@ pub taken-no-birth : (kind : Kind) (o : Origin) → BringNoBirth (takes_by kind 
 taken-no-birth kind InLease = tt
 taken-no-birth kind (Comes first) = (refl, tt)
 taken-no-birth kind Next = tt
+
+-- and no withdrawal
+pub taken-no-cancel : (kind : Kind) (o : Origin) (y : ℕ) → AllByRecursion (λ t. is_cancel_of y t.1
+    ≡ false) (takes_by kind o)
+taken-no-cancel kind InLease y = tt
+taken-no-cancel kind (Comes first) y = (refl, tt)
+taken-no-cancel kind Next y = tt
 
 module _ (script : Script) (w : World) (b : Beside) (holds : Holds script w [] b) (p : ℕ) (call : Call) (kind : Kind)
     (number : ℕ) (numbers : List ℕ) (o : Origin) (e : Event)
@@ -127,12 +139,10 @@ module _ (script : Script) (w : World) (b : Beside) (holds : Holds script w [] b
 
     -- the history goes on
     pub history-after : Makes b.kernel pid call reply after
-        → HasHistory script next.journal after (places_after script b.places (entry_by p pid call reply) place)
+        → HasHistory script (b.lines ++ entries) after (places_after script b.places (entry_by p pid call reply) place)
     history-after makes =
-        subst (λ j. HasHistory script j after (places_after script b.places (entry_by p pid call reply) place))
-        (sym c.journal)
-        (history-goes-on script w.journal b.kernel b.places p pid call reply place after holds.history s.there s.is_due
-        makes)
+        history-goes-on script b.lines b.kernel b.places p pid call reply place after holds.history s.there s.is_due
+        makes
 
     -- the leader's keys are the kernel's
     pub keys-after : KeepsKeys b.kernel after → n.leader.queue_keys ≡ (node_of w p).leader.queue_keys
@@ -147,23 +157,25 @@ module _ (script : Script) (w : World) (b : Beside) (holds : Holds script w [] b
         (sym (read-same script p w next n (takes_by kind o) sends entries c (λ (z : Node). z.leader.set_keys) sets 1))
         (keys-kept l.queue_keys l.set_keys b.kernel after keeps holds.keys))
 
-    abbrev calls : ℕ → CallPlace
-    calls = calls-now script w b holds p call kind number numbers o e s next n sends entries c
+    -- What stands beside the world afterwards: its call is over.
+    abbrev made : Beside → Beside
+    made b' = made_beside script w b holds p call kind number numbers o e s next n sends entries c b'
+
+    tries : HasTries script
+    tries = let shape = holds.shape in shape.tries
 
     -- the call is over
-    pub call-after : (born : ℕ → Bool) (places : Places) (pids : ℕ → ℕ) (deed : Name → DeedPlace) (alive : Alive)
-        (name : Name) (at : Option DirectoryPlace)
+    pub call-after : (born : ℕ → Bool) (b' : Beside) (alive : Alive) (name : Name) (at : Option DirectoryPlace)
         → IsAfter (directory_of w) (directory_by (directory_of w) kind o) (directory_of next) name at
         → n.caller ≡ answer_call script p s.caller call reply → n.stage ≡ Living
-        → get places (pids p) ≡ Some (place_after place call (Some reply)) → living_at after (pids p) ≡ Some alive
+        → get b'.places (b'.pids p) ≡ Some (place_after place call (Some reply))
+        → living_at b'.kernel (b'.pids p) ≡ Some alive
+        → ((m : Name) → filter (is_waiter_of p) (waiters_of (b'.body m)) ≡ [])
         → AllByRecursion (λ t. is_about p t.0 p t.1 ≡ false) sends
-        → CallHolds script p born
-        (call_sight next [] (record { kernel = after; places = places; pids = pids; deed = deed; call = calls }) p)
-    call-after born places pids deed alive name at a caller stage there lives none =
-        let y : CallSight =
-        call_sight next [] (record { kernel = after; places = places; pids = pids; deed = deed; call = calls }) p
-        in let shape = holds.shape
-        in call-over script shape.tries p born y s.caller call reply alive s.is_due s.tickets s.try_left
+        → CallHolds script p born (call_sight next [] (made b') p)
+    call-after born b' alive name at a caller stage there lives none_waits none =
+        call-over script tries p born (call_sight next [] (made b') p) s.caller call reply alive s.is_due s.tickets
+        s.try_left
         (ap (λ (m : Node). m.caller) c.here ∙ caller) (ap (λ (m : Node). m.stage) c.here ∙ stage)
         (ap (λ t. if t then Idle else b.call p) (eq-eqb p p refl))
         (record {
@@ -173,4 +185,35 @@ module _ (script : Script) (w : World) (b : Beside) (holds : Holds script w [] b
               ∙ left-alone script w b holds p call kind number numbers o e s next n sends entries c to sender;
           held_for_names = λ m. ap (filter (is_item_about p)) (a.held m) ∙ s.not_held m;
           in_hand = refl;
+          waiting = none_waits;
         }) there lives
+
+    -- how the node stands with its call
+    is-over : IsAnswered script p s.caller call reply (answer_call script p s.caller call reply)
+    is-over =
+        is-answered script tries p (is_born_in w) (record (call_sight w [] b p) {
+          caller = answer_call script p s.caller call reply;
+        }) s.caller call reply s.may.alive s.is_due s.tickets s.try_left refl
+
+    -- none is under way
+    pub free-after : n.caller ≡ answer_call script p s.caller call reply → n.caller.under_way ≡ None
+    free-after caller = ap (λ (m : Caller). m.under_way) caller ∙ is-over.free
+
+    -- and there is no withdrawal of it
+    pub cancel-after : (b' : Beside) (name : Name) (at : Option DirectoryPlace)
+        → IsAfter (directory_of w) (directory_by (directory_of w) kind o) (directory_of next) name at
+        → n.caller ≡ answer_call script p s.caller call reply → n.pid ≡ (node_of w p).pid → b'.cancel p ≡ b.cancel p
+        → AllByRecursion (λ t. is_cancel_of p t.1 ≡ false) sends
+        → CancelHolds p Nothing (cancel_sight next [] (made b') p)
+    cancel-after b' name at a caller process cancel none =
+        let now : (node_of next p).caller ≡ answer_call script p s.caller call reply =
+        ap (λ (m : Node). m.caller) c.here ∙ caller
+        in let ticket : (node_of next p).caller.ticket ≡ s.caller.ticket =
+        ap (λ (m : Caller). m.ticket) now ∙ is-over.ticket_is
+        in let older = s.older
+        in cancel-over p Nothing Nothing (cancel_sight w [] b p) (cancel_sight next [] (made b') p)
+        (old-still script p w next n (takes_by kind o) sends entries c [] [] b (made b') p
+        (sym (ap (λ (m : Node). m.pid) c.here ∙ process)) (omega (arith, ticket, older))
+        (λ m. ap (filter (is_held_cancel_of p)) (a.held m)) refl (taken-no-cancel kind o p) none)
+        (cancel ∙ s.uncancelled) (inl (ap (λ (m : Caller). m.under_way) now ∙ is-over.free))
+        (λ owed. absurd (false≢true owed)) (holds.cancels p s.low s.high)

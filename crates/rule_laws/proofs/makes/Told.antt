@@ -11,15 +11,13 @@ use Rattle.pico_base.specs.declared.script.Event.{Event}
 use Rattle.pico_base.specs.declared.script.Script.{Script}
 use Rattle.rpc_frame.specs.declared.frame.Frame.{Frame}
 use Rattle.rpc_frame.specs.declared.frame.Frame.TheVariants as frames
-use Rattle.kernel_model.specs.Fitting.{Places}
-use Rattle.kernel_model.specs.Kernel.{Kernel}
 use Rattle.entry_laws.specs.Entering.{is_used_name}
 use Rattle.node_model.specs.Directory.{destination_of, items_of, maker, place_of, stays}
 use Rattle.world_model.specs.Node.{Node}
 use Rattle.world_model.specs.World.{World}
-use Rattle.world_laws.specs.Places.{Beside, CallPlace, DeedPlace}
+use Rattle.world_laws.specs.Places.{Beside, CallPlace}
 use Rattle.world_laws.specs.Sights.{directory_of, frames_to, is_born_in}
-use Rattle.world_laws.specs.Plays.{News, Somewhere, Tells, believed, finds_place, news, news_if, placed_in, told}
+use Rattle.world_laws.specs.Plays.{News, Somewhere, Tells, believed, finds_place, news, news_if, placed_in, plays, told}
 use Rattle.world_laws.specs.Names.{HasMakerThatStays, IsSentThere, IsTold, NameHolds, NameSight, SaysOf, belief_of, is_maker, leases_first, maker_tells, name_sight, range_steps_of}
 use Rattle.world_laws.specs.Invariant.{Holds}
 use Rattle.world_laws.specs.Ways.{IsHere, knows_parent, way_sight}
@@ -30,8 +28,9 @@ use Rattle.world_laws.proofs.Sends.{frame_if, frames_with}
 use Rattle.rule_laws.proofs.own.NewNames.{only-in}
 use Rattle.rule_laws.proofs.own.Objects.{here-way, no-news, two-or-more}
 use Rattle.rule_laws.proofs.makes.Directories.{IsAfter, place_if, tells_if}
+use Rattle.rule_laws.proofs.makes.FirstUsed.{first-still, plays-unsent, sent-before}
 use Rattle.rule_laws.proofs.makes.NewOnes.{nothing-known, nothing-told}
-use Rattle.rule_laws.proofs.makes.Ready.{calls-now, left-same, name-is-ready, ready-name}
+use Rattle.rule_laws.proofs.makes.Ready.{calls-now, left-same, made_beside, name-is-ready, ready-name}
 use Rattle.rule_laws.proofs.makes.Sources.{Origin, Source, directory_by, takes_by}
 
 -- what was sent is what was sent first, and then the rest
@@ -123,13 +122,25 @@ module _ (script : Script) (w : World) (b : Beside) (holds : Holds script w [] b
       (nothing-told script b.pids (is_born_in w) name x known unused q)
       ∙ placed-told p q name at (nat_eq p 1)
 
+  -- the maker stays
+  pub maker-stays : stays (directory_of w) p ≡ true
+  maker-stays = stays-here (cases_eq p 1)
+    where
+      stays-here : (p ≡ 1) ⊎ (p ≢ 1) → stays (directory_of w) p ≡ true
+      stays-here (inl first) = ap (stays (directory_of w)) first ∙ holds.leading.stays
+      stays-here (inr other) =
+          let way : IsHere (way_sight w p) =
+          here-way script b.pids p (knows_parent script w b.pids p) (way_sight w p) s.stage
+          (holds.ways p (two-or-more p s.low other) s.high)
+          in ap is_none way.shows.has_parting
+
   maker-now : maker (directory_of next) name ≡ Some p
   maker-now = a.makers name ∙ made
 
-  module _ (k : Kernel) (places : Places) (pids : ℕ → ℕ) (deed : Name → DeedPlace)
-      (used : is_used_name k name ≡ true) (none_placed : MakesNothing (λ to fs. placed_in name fs) births) where
+  module _ (b' : Beside) (used : is_used_name b'.kernel name
+      ≡ true) (none_placed : MakesNothing (λ to fs. placed_in name fs) births) where
     abbrev moved : Beside
-    moved = record { kernel = k; places = places; pids = pids; deed = deed; call = calls }
+    moved = made_beside script w b holds p call kind number numbers o e s next n sends entries c b'
 
     abbrev y : NameSight
     y = name_sight script next [] moved name
@@ -147,24 +158,24 @@ module _ (script : Script) (w : World) (b : Beside) (holds : Holds script w [] b
         by-test false = ap (λ u. told (if u then at ∷ [] else [])) (eq-eqb p p refl)
 
     -- it is told rightly
-    pub told-now : SaysOf pids name p at → (p ≢ 1 → at ≢ 1) → (sender node : ℕ)
+    pub told-now : SaysOf b'.pids name p at → (p ≢ 1 → at ≢ 1) → (sender node : ℕ)
         → Contains (placed_in name (frames_to next 1 sender)) node
-        → IsTold pids name (is_used_name k name) (maker (directory_of next) name) sender node
+        → IsTold b'.pids name (is_used_name b'.kernel name) (maker (directory_of next) name) sender node
     told-now says other sender node there =
         by-test (nat_eq p 1) (nat_eq sender p) refl refl
         (subst (λ vs. Contains vs node) (placed-now none_placed sender) there)
       where
-        is-told : p ≢ 1 → IsTold pids name (is_used_name k name) (maker (directory_of next) name) p at
+        is-told : p ≢ 1 → IsTold b'.pids name (is_used_name b'.kernel name) (maker (directory_of next) name) p at
         is-told d = record { used = used; maker = maker-now; says = says; other = other d }
 
         by-test : (t u : Bool) → nat_eq p 1 ≡ t → nat_eq sender p ≡ u → Contains (told_if t u at) node
-            → IsTold pids name (is_used_name k name) (maker (directory_of next) name) sender node
+            → IsTold b'.pids name (is_used_name b'.kernel name) (maker (directory_of next) name) sender node
         by-test true u g i in_it = absurd (contains-none node in_it)
         by-test false false g i in_it = absurd (contains-none node in_it)
         by-test false true g i in_it =
-            subst (λ v. IsTold pids name (is_used_name k name) (maker (directory_of next) name) sender v)
+            subst (λ v. IsTold b'.pids name (is_used_name b'.kernel name) (maker (directory_of next) name) sender v)
             (only-in at node in_it)
-            (subst (λ v. IsTold pids name (is_used_name k name) (maker (directory_of next) name) v at)
+            (subst (λ v. IsTold b'.pids name (is_used_name b'.kernel name) (maker (directory_of next) name) v at)
             (sym (eqb-true sender p i))
             (is-told (λ same. false≢true (sym g ∙ eq-eqb p 1 same))))
 
@@ -172,17 +183,9 @@ module _ (script : Script) (w : World) (b : Beside) (holds : Holds script w [] b
     pub unplaced-now : place_of (directory_of next) name ≡ None
         → HasMakerThatStays (maker (directory_of next) name) (stays (directory_of next))
     unplaced-now none =
-        record { node = p; makes = maker-now; stays = ap is_none (a.partings p) ∙ stays-here (cases_eq p 1) }
-      where
-        stays-here : (p ≡ 1) ⊎ (p ≢ 1) → stays (directory_of w) p ≡ true
-        stays-here (inl first) = ap (stays (directory_of w)) first ∙ holds.leading.stays
-        stays-here (inr other) =
-            let way : IsHere (way_sight w p) =
-            here-way script b.pids p (knows_parent script w b.pids p) (way_sight w p) s.stage
-            (holds.ways p (two-or-more p s.low other) s.high)
-            in ap is_none way.shows.has_parting
+        record { node = p; makes = maker-now; stays = ap is_none (a.partings p) ∙ maker-stays }
 
-    flag-now : (q : ℕ) → (is_used_name k name && is_maker (maker (directory_of next) name) q) ≡ nat_eq p q
+    flag-now : (q : ℕ) → (is_used_name b'.kernel name && is_maker (maker (directory_of next) name) q) ≡ nat_eq p q
     flag-now q =
         ap (λ u. u && is_maker (maker (directory_of next) name) q) used
         ∙ ap (λ m. is_maker m q) maker-now
@@ -214,10 +217,12 @@ module _ (script : Script) (w : World) (b : Beside) (holds : Holds script w [] b
     -- what needs its place finds it
     pub found-now : ((flag : Bool) → MakesNothing (λ to fs. news name flag fs) births) → (q : ℕ) → 2 ≤ q
         → finds_place (is_some (place_of (directory_of next) name))
-        (news name (is_used_name k name && is_maker (maker (directory_of next) name) q) (frames_to next 1 q)) ≡ true
+        (news name (is_used_name b'.kernel name && is_maker (maker (directory_of next) name) q) (frames_to next 1 q))
+        ≡ true
     found-now none q low =
         ap (λ place. finds_place (is_some place)
-        (news name (is_used_name k name && is_maker (maker (directory_of next) name) q) (frames_to next 1 q))) a.itself
+        (news name (is_used_name b'.kernel name && is_maker (maker (directory_of next) name) q)
+        (frames_to next 1 q))) a.itself
         ∙ ap (λ flag. finds_place (is_some (place_if (nat_eq p 1) at)) (news name flag (frames_to next 1 q)))
         (flag-now q)
         ∙ ap (finds_place (is_some (place_if (nat_eq p 1) at))) (news-now none (nat_eq p q) q)
@@ -240,22 +245,41 @@ module _ (script : Script) (w : World) (b : Beside) (holds : Holds script w [] b
             ∙ ap (finds_place false) (append-nil (news name false (frames_to w 1 q)))
             ∙ old-found q low
 
-    ranges-now : MakesNothing (λ to fs. flat_map (range_steps_of calls name) fs) sends → (q : ℕ)
-        → y.ranges q ≡ x.ranges q
+    ranges-now : MakesNothing (λ to fs. flat_map (range_steps_of true calls name) fs) sends → (q : ℕ)
+        → y.ranges q ≡ flat_map (range_steps_of true calls name) (c.left q 1)
     ranges-now none q =
-        only-stayed script p w next n (takes_by kind o) sends entries c
-        (λ t z fs. flat_map (range_steps_of calls name) fs) (λ t z. flat_map-is-list-map _) none q 1
+        ap (λ u. flat_map (range_steps_of u calls name) (frames_to next q 1)) used
+        ∙ only-stayed script p w next n (takes_by kind o) sends entries c
+        (λ t z fs. flat_map (range_steps_of true calls name) fs) (λ t z. flat_map-is-list-map _) none q 1
+
+    ranges-were : (q : ℕ) → x.ranges q ≡ flat_map (range_steps_of false calls name) (c.left q 1)
+    ranges-were q = ap (λ u. flat_map (range_steps_of u calls name) (c.left q 1)) unused
 
     -- a call goes by range to its maker
-    pub ranged-now : MakesNothing (λ to fs. flat_map (range_steps_of calls name) fs) sends → (q : ℕ)
+    pub ranged-now : MakesNothing (λ to fs. flat_map (range_steps_of true calls name) fs) sends → (q : ℕ)
         → Contains (y.ranges q) IsSentThere → maker (directory_of next) name ≡ Some q
     ranged-now none q there =
-        a.makers name ∙ known.ranged q (subst (λ rs. Contains rs IsSentThere) (ranges-now none q) there)
+        a.makers name
+        ∙ known.ranged q (subst (λ rs. Contains rs IsSentThere) (sym (ranges-were q))
+        (sent-before calls name (c.left q 1) (subst (λ rs. Contains rs IsSentThere) (ranges-now none q) there)))
 
     -- and no lease with it stands behind one
-    pub leased-now : MakesNothing (λ to fs. flat_map (range_steps_of calls name) fs) sends → (q : ℕ) → 2 ≤ q
+    pub leased-now : MakesNothing (λ to fs. flat_map (range_steps_of true calls name) fs) sends → (q : ℕ) → 2 ≤ q
         → leases_first (y.ranges q) ≡ true
-    leased-now none q low = ap leases_first (ranges-now none q) ∙ known.leased q low
+    leased-now none q low =
+        ap leases_first (ranges-now none q)
+        ∙ first-still calls name (c.left q 1) (ap leases_first (sym (ranges-were q)) ∙ known.leased q low)
+
+    -- What is on its way of it to another node than its maker's is played as before.
+    pub played-elsewhere : (q : ℕ) → q ≢ p
+        → plays true calls name (c.left q 1) ≡ plays false calls name (c.left q 1)
+    played-elsewhere q d =
+        plays-unsent calls name (c.left q 1)
+        (λ there. d (some-same q p (sym (known.ranged q
+        (subst (λ rs. Contains rs IsSentThere) (sym (ranges-were q)) there)) ∙ made)))
+      where
+        some-same : (u v : ℕ) → Some u ≡ Some v → u ≡ v
+        some-same u v h = cc
 
     -- nothing is held for it
     pub bound-now : destination_of (place_of (directory_of next) name) ≡ None

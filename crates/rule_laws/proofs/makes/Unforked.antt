@@ -21,8 +21,8 @@ use Rattle.kernel_laws.proofs.Members.{contains-cases, contains-filter, contains
 use Rattle.kernel_laws.proofs.ValidLaws.{reachable_kernels_are_valid_lemma}
 use Rattle.entry_laws.specs.Entering.{is_used_name}
 use Rattle.entry_laws.proofs.Numbers.{process-there}
+use Rattle.entry_laws.proofs.History.{history-reachable}
 use Rattle.entry_laws.proofs.Places.{ForkPasses, fork-passes}
-use Rattle.node_model.specs.Bodies.{body_in}
 use Rattle.node_model.specs.Caller.{caller_place, lines_of}
 use Rattle.world_model.specs.Census.{brings}
 use Rattle.world_model.specs.Lives.{names_block}
@@ -100,7 +100,7 @@ module _ (script : Script) (w : World) (b : Beside) (holds : Holds script w [] b
   -- ---- no Checkpoint is on its way there
 
   valid : IsValid b.kernel
-  valid = reachable_kernels_are_valid_lemma b.kernel (w.journal, holds.history.legal)
+  valid = reachable_kernels_are_valid_lemma b.kernel (history-reachable script b.lines b.kernel b.places holds.history)
 
   some-process : (o : Option Process) → is_some o ≡ true → (v : Process) × (o ≡ Some v)
   some-process (Some v) e = (v, refl)
@@ -163,13 +163,13 @@ module _ (script : Script) (w : World) (b : Beside) (holds : Holds script w [] b
       in let it : Frame = frames.Checkpoint pid parent deed vars
       in let in_it : Contains (filter (brings m) (frames_to w c sender)) it =
       contains-filter (brings m) (frames_to w c sender) it there (same-name m m refl)
-      in let one : OnlyOne (IsBringer b.pids m (body_in b.kernel m) (b.deed m))
+      in let one : OnlyOne (IsBringer b.pids m (b.body m) (b.deed m))
       (filter (brings m) (frames_to w c sender)) =
-      one-of (is_stream_of (forker script) (b.deed m) c sender) (IsBringer b.pids m (body_in b.kernel m) (b.deed m))
+      one-of (is_stream_of (forker script) (b.deed m) c sender) (IsBringer b.pids m (b.body m) (b.deed m))
       (filter (brings m) (frames_to w c sender)) it in_it (name.streams c sender)
       in let same : one.one ≡ it = just-one one.one it (subst (λ fs. Contains fs it) one.only in_it)
-      in let is : IsCheckpointed (b.deed m) c deed m (body_in b.kernel m) [] =
-      checkpointed (forker script) b.pids m (body_in b.kernel m) c sender pid parent deed vars []
+      in let is : IsCheckpointed (b.deed m) c deed m (b.body m) [] =
+      checkpointed (forker script) b.pids m (b.body m) c sender pid parent deed vars []
       (filter (brings m) (frames_to w c sender)) (one.only ∙ ap (λ f. f ∷ []) same) (b.deed m) (name.streams c sender)
       in no-object m is.deed_is
     where

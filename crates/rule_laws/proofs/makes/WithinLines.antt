@@ -16,12 +16,11 @@ use Rattle.kernel_model.specs.Row.{Alive}
 use Rattle.kernel_model.specs.Script.{Vars}
 use Rattle.kernel_laws.proofs.People.{from-living}
 use Rattle.entry_laws.proofs.Places.{after-cases}
-use Rattle.node_model.specs.Bodies.{body_in}
 use Rattle.node_model.specs.Caller.{Caller, caller_place, lines_in, lines_of}
 use Rattle.node_model.specs.Kinds.{get_named}
 use Rattle.world_model.specs.Node.{Leaving, Left, Living, Node, Over, Stage, Unborn, unborn_node}
 use Rattle.world_model.specs.World.{World, node_count}
-use Rattle.world_laws.specs.Places.{AsksLease, Beside, CallPlace, DeedPlace, Ends, HasLease, Idle, InAnswer, InAsk, InBounce, InCheckpoint, InExitTo, InGiveBack, InGrant, InHand, InKept, InLeft, InNotOwner, InRequest, InTable, IsHeld, IsInHand, SentByPlace, SentByRange, Unmade}
+use Rattle.world_laws.specs.Places.{AsksLease, Beside, CallPlace, DeedPlace, Ends, HasLease, Idle, InAnswer, InAsk, InBounce, InCheckpoint, InExitTo, InGiveBack, InGrant, InHand, InKept, InLeft, InNotOwner, InRequest, InTable, IsHeld, IsInHand, Parked, SentByPlace, SentByRange, Unmade, Waits}
 use Rattle.world_laws.specs.Sights.{is_born_in, node_of, stage_of}
 use Rattle.world_laws.specs.Names.{NameHolds, held_as, name_sight}
 use Rattle.world_laws.specs.Callers.{CallHolds, CallSight, FreeIn, HasCallOrNone, HasEnded, IsSoFar, IsToBeMade, call_sight}
@@ -119,10 +118,10 @@ module _ (script : Script) (w : World) (b : Beside) (holds : Holds script w [] b
       let name : NameHolds script b.pids (is_born_in w) (Proc pid) (name_sight script w [] b (Proc pid)) =
       holds.names (Proc pid)
       in absurd
-      (none-is-some (body_in b.kernel (Proc pid))
+      (none-is-some (b.body (Proc pid))
       (sym (unborn-holds q pid) ∙ ap (λ (m : Node). get_named m.deeds (Proc pid)) (sym unborn) ∙ name.tables q
-      ∙ ap (λ (d : DeedPlace). held_as d (body_in b.kernel (Proc pid)) q) (is ∙ ap InTable own)
-      ∙ held-here q (body_in b.kernel (Proc pid))))
+      ∙ ap (λ (d : DeedPlace). held_as d (b.body (Proc pid)) q) (is ∙ ap InTable own)
+      ∙ held-here q (b.body (Proc pid))))
   by-deed unborn (InCheckpoint to) is own c =
       let for : IsCheckpointFor script b.pids b.places q c.0 = c.2
       in sym (ap (list_any test) (block-lines (block_at script q) for.vars))
@@ -182,6 +181,8 @@ module _ (script : Script) (w : World) (b : Beside) (holds : Holds script w [] b
   so-far call (InBounce sender) h = to-be-made call h
   so-far call (IsHeld name) h = to-be-made call h
   so-far call IsInHand h = to-be-made call h
+  so-far call Parked h = to-be-made call h
+  so-far call (Waits name) h = to-be-made call h
 
   by-call : (o : Option Call) → HasCallOrNone script q (is_born_in w) x o → list_any test (lines_of script q) ≡ true
   by-call None h = by-free n.stage refl h.free

@@ -16,6 +16,17 @@ use Rattle.world_laws.specs.Invariant.{Holds}
 use Rattle.world_laws.proofs.Lines.{IsAnswered, answered, due-at-line}
 use Rattle.rule_laws.proofs.own.Runs.{Starts}
 
+-- the caller goes on with the reply
+pub answered-at-once : (script : Script) (w : World) (b : Beside) → Holds script w [] b → (p : ℕ) → 1 ≤ p
+    → p ≤ node_count script → (s : Starts script w b p) (reply : Reply)
+    → (let started : Caller = start_call (node_of w p).caller s.call
+    in IsAnswered script p started s.call reply (answer_call script p started s.call reply))
+answered-at-once script w b holds p low high s reply =
+    let shape = holds.shape
+    in let c : Caller = (node_of w p).caller
+    in let line = due-at-line script p c s.call s.due_now.due
+    in answered script p shape.tries (start_call c s.call) s.call reply line.0 line.1 s.free.try_left
+
 module _ (script : Script) (w : World) (b : Beside) (holds : Holds script w [] b) (p : ℕ) (low : 1 ≤ p)
     (high : p ≤ node_count script) (s : Starts script w b p) (reply : Reply) (alive : Alive) (leases : Leases) where
   abbrev n : Node
@@ -41,10 +52,7 @@ module _ (script : Script) (w : World) (b : Beside) (holds : Holds script w [] b
       }
 
   is-answered : IsAnswered script p started s.call reply (answer_call script p started s.call reply)
-  is-answered =
-      let shape = holds.shape
-      in let line = due-at-line script p n.caller s.call s.due_now.due
-      in answered script p shape.tries started s.call reply line.0 line.1 s.free.try_left
+  is-answered = answered-at-once script w b holds p low high s reply
 
   free-now : IsFree script p answered-sight
   free-now =
@@ -73,6 +81,7 @@ module _ (script : Script) (w : World) (b : Beside) (holds : Holds script w [] b
                 in_streams = s.nowhere.in_streams;
                 held_for_names = s.nowhere.held_for_names;
                 in_hand = s.nowhere.in_hand;
+                waiting = s.nowhere.waiting;
               };
               idle = s.idle;
               free = subst (λ (stage : Stage). FreeIn script p answered-sight stage) (sym s.stage) free-now;

@@ -99,10 +99,13 @@ module _ (script : Script) (sound : IsSoundScript script) (w : World) (b : Besid
         in_stream = λ t q. refl;
         not_held = λ name. refl;
         not_in_hand = refl;
+        not_waiting = λ name. refl;
+        not_made = refl;
         no_end = refl;
         no_lease_place = λ k. refl;
         about = eq-eqb p p refl;
         about_none = λ y d. ne_eqb p y (λ e. d (sym e));
+        no_cancel = λ y. refl;
         plain = refl;
         no_birth = refl;
         no_lease = λ k. refl;
@@ -148,10 +151,13 @@ module _ (script : Script) (sound : IsSoundScript script) (w : World) (b : Besid
         in_stream = λ t q. refl;
         not_held = λ name. refl;
         not_in_hand = refl;
+        not_waiting = λ name. refl;
+        not_made = refl;
         no_end = refl;
         no_lease_place = λ k. refl;
         about = eq-eqb p p refl;
         about_none = λ y d. ne_eqb p y (λ e. d (sym e));
+        no_cancel = λ y. refl;
         plain = refl;
         no_birth = refl;
         no_lease = λ k. refl;

@@ -13,6 +13,7 @@ use Rattle.kernel_model.specs.Queue.{empty_queue}
 use Rattle.kernel_model.specs.SemaphoreSet.{SemaphoreSet, new_set}
 use Rattle.entry_laws.specs.Entering.{MayMake}
 use Rattle.entry_laws.proofs.Fresh.{makes-private-queue, makes-private-set}
+use Rattle.waiting_model.specs.Waiters.{unawaited}
 use Rattle.node_model.specs.Bodies.{AQueue, ASet}
 use Rattle.node_model.specs.Directory.{maker_in, max_ranges}
 use Rattle.world_model.specs.Numbers.{make_set}
@@ -24,7 +25,8 @@ use Rattle.rule_laws.proofs.own.Objects.{MakesOne}
 pub makes-queue : (script : Script) (k : Kernel) (pid number : ℕ) (create excl : Bool)
     → MayMake k pid (calls.MsgGet None create excl) → is_used k.used_queues number ≡ false
     → is_positive_u32 number ≡ true
-    → MakesOne script k pid (calls.MsgGet None create excl) kinds.Msg number (Msg number) (AQueue empty_queue)
+    → MakesOne script k pid (calls.MsgGet None create excl) kinds.Msg number (Msg number) (AQueue
+    (unawaited empty_queue))
 makes-queue script k pid number create excl may unused low =
     record {
       takes = queue-takes create excl;
@@ -42,7 +44,7 @@ makes-queue script k pid number create excl may unused low =
 pub makes-set : (script : Script) (k : Kernel) (pid number count : ℕ) (create excl : Bool) (set : SemaphoreSet)
     → MayMake k pid (calls.SemGet None count create excl) → new_set count ≡ Ok set
     → is_used k.used_sets number ≡ false → is_positive_u32 number ≡ true
-    → MakesOne script k pid (calls.SemGet None count create excl) kinds.Sem number (Sem number) (ASet set)
+    → MakesOne script k pid (calls.SemGet None count create excl) kinds.Sem number (Sem number) (ASet (unawaited set))
 makes-set script k pid number count create excl set may is unused low =
     record {
       takes = set-takes count create excl set is;

@@ -1,5 +1,5 @@
 -- For a name that isn't there yet: nothing on the way is about it. And lists and options that nothing is in.
-use Rattle.std.proofs.Common.{◌≡◌, ℕ, Bool, true, false, cond, if◌then◌else◌, List, [], ◌∷◌, ◌++◌, filter, Contains, Option, Some, None, is_some, refl, ap, sym, ◌∙◌, inl, inr}
+use Rattle.std.proofs.Common.{◌≡◌, ℕ, Bool, true, false, ◌&&◌, cond, if◌then◌else◌, List, [], ◌∷◌, ◌++◌, filter, Contains, Option, Some, None, is_some, refl, ap, sym, ◌∙◌, inl, inr}
 use Rattle.std.proofs.lemmas.Bool.{false≢true}
 use Rattle.pico_base.specs.declared.numbers.Name.{Name}
 use Rattle.pico_base.specs.declared.numbers.Name.TheVariants.{Proc}
@@ -10,7 +10,7 @@ use Rattle.node_model.specs.Directory.{has_deed_of}
 use Rattle.node_model.specs.Kinds.{is_same_name}
 use Rattle.world_model.specs.Census.{brings}
 use Rattle.world_laws.specs.Places.{CallPlace}
-use Rattle.world_laws.specs.Plays.{Hold, Has, Lacks, PlayStep, Comes, Goes, IsNeeded, is_has, needs_deed, play, plays, steps_if, steps_of}
+use Rattle.world_laws.specs.Plays.{Hold, Has, Lacks, PlayStep, Comes, Goes, IsNeeded, is_cancel_on, is_has, needs_deed, play, plays, steps_if, steps_of}
 use Rattle.world_laws.specs.Ways.{is_recall_all}
 use Rattle.world_laws.proofs.NameFacts.{play-goes, play-needs}
 
@@ -35,16 +35,19 @@ if-exit : (a c : Bool) (ss : List PlayStep) (last : Hold) → a ≡ false
 if-exit true c ss last e h = absurd (false≢true (sym e))
 if-exit false c ss last e h = if-needed c ss last h
 
-no-step : (call : ℕ → CallPlace) (name : Name) (f : Frame) (ss : List PlayStep) (last : Hold) → brings name f ≡ false
-    → is_recall_all f ≡ false → play Lacks (steps_of call name f ++ ss) ≡ Some last → steps_of call name f ≡ []
-no-step call name (frames.Grant deed) ss last e r h = ap (λ t. steps_if t Comes) e
-no-step call name (frames.Checkpoint pid parent deed vars) ss last e r h = ap (λ t. steps_if t Comes) e
-no-step call name (frames.ExitTo parcel) ss last e r h =
+no-step : (used : Bool) (call : ℕ → CallPlace) (name : Name) (f : Frame) (ss : List PlayStep) (last : Hold)
+    → brings name f ≡ false
+    → is_recall_all f ≡ false → play Lacks (steps_of used call name f ++ ss) ≡ Some last
+    → steps_of used call name f ≡ []
+no-step used call name (frames.Grant deed) ss last e r h = ap (λ t. steps_if t Comes) e
+no-step used call name (frames.Checkpoint pid parent deed vars) ss last e r h = ap (λ t. steps_if t Comes) e
+no-step used call name (frames.ExitTo parcel) ss last e r h =
     if-exit (has_deed_of name parcel) (is_same_name name (Proc parcel.parent)) ss last e h
-no-step call name (frames.Recall other) ss last e r h = if-goes (is_same_name name other) ss last h
-no-step call name frames.RecallAll ss last e r h = absurd (false≢true (sym r))
-no-step call name (frames.Forward asked) ss last e r h = if-needed (needs_deed call name asked) ss last h
-no-step call name f ss last e r h = refl
+no-step used call name (frames.Recall other) ss last e r h = if-goes (is_same_name name other) ss last h
+no-step used call name frames.RecallAll ss last e r h = absurd (false≢true (sym r))
+no-step used call name (frames.Forward asked) ss last e r h = if-needed (needs_deed used call name asked) ss last h
+no-step used call name (frames.Cancel asked) ss last e r h = if-needed (used && is_cancel_on name asked) ss last h
+no-step used call name f ss last e r h = refl
 
 -- where a filter keeps nothing, it drops the first, and all the others
 pub drops : {A : Type 0} (t : Bool) (x : A) (xs : List A) → cond t (x ∷ xs) xs ≡ [] → (t ≡ false) × (xs ≡ [])
@@ -55,15 +58,16 @@ drops true x xs h = absurd (not-empty x xs h)
 drops false x xs h = (refl, h)
 
 -- where no frame brings its deed, none collects all, and the node lacks it
-pub no-plays : (call : ℕ → CallPlace) (name : Name) (fs : List Frame) (last : Hold) → filter (brings name) fs ≡ []
-    → filter is_recall_all fs ≡ [] → play Lacks (plays call name fs) ≡ Some last → plays call name fs ≡ []
-no-plays call name [] last e r h = refl
-no-plays call name (f ∷ fs) last e r h =
+pub no-plays : (used : Bool) (call : ℕ → CallPlace) (name : Name) (fs : List Frame) (last : Hold)
+    → filter (brings name) fs ≡ []
+    → filter is_recall_all fs ≡ [] → play Lacks (plays used call name fs) ≡ Some last → plays used call name fs ≡ []
+no-plays used call name [] last e r h = refl
+no-plays used call name (f ∷ fs) last e r h =
     let b = drops (brings name f) f (filter (brings name) fs) e
     in let c = drops (is_recall_all f) f (filter is_recall_all fs) r
-    in let none : steps_of call name f ≡ [] = no-step call name f (plays call name fs) last b.0 c.0 h
-    in ap (λ ss. ss ++ plays call name fs) none
-    ∙ no-plays call name fs last b.1 c.1 (sym (ap (λ ss. play Lacks (ss ++ plays call name fs)) none) ∙ h)
+    in let none : steps_of used call name f ≡ [] = no-step used call name f (plays used call name fs) last b.0 c.0 h
+    in ap (λ ss. ss ++ plays used call name fs) none
+    ∙ no-plays used call name fs last b.1 c.1 (sym (ap (λ ss. play Lacks (ss ++ plays used call name fs)) none) ∙ h)
 
 -- ---- lists and options
 

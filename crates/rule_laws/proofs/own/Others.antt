@@ -230,6 +230,7 @@ module _ (script : Script) (p : ℕ) (born : ℕ → Bool) (x : CallSight) (aliv
           in_streams = nowhere.in_streams;
           held_for_names = nowhere.held_for_names;
           in_hand = nowhere.in_hand;
+          waiting = nowhere.waiting;
         };
         idle = h.idle;
         free = free x.stage h.free;
@@ -240,12 +241,14 @@ module _ (script : Script) (p : ℕ) (born : ℕ → Bool) (x : CallSight) (aliv
           in_streams = h.just_there.in_streams;
           held_for_names = h.just_there.held_for_names;
           in_hand = h.just_there.in_hand;
+          waiting = h.just_there.waiting;
         };
         home = h.home;
         used_up = h.used_up;
         between = h.between;
         so_far = so-far call x.call h.so_far;
         at_work = h.at_work;
+        started = h.started;
         tickets = h.tickets;
         try_left = h.try_left;
       }

@@ -1,6 +1,6 @@
 -- A node starts a call of its process that others carry out, or that needs a number first: the call goes out in one
 -- frame.
-use Rattle.std.proofs.Common.{◌≡◌, ◌≢◌, ℕ, ◌+◌, ◌≤◌, Bool, true, false, ◌&&◌, cond, if◌then◌else◌, List, [], ◌∷◌, ◌++◌, filter, nat_eq, Contains, Some, refl, ap, sym, subst, ◌∙◌, inl, inr, arith}
+use Rattle.std.proofs.Common.{◌≡◌, ◌≢◌, ℕ, ◌+◌, ◌≤◌, Bool, true, false, ◌&&◌, cond, if◌then◌else◌, List, [], ◌∷◌, ◌++◌, filter, nat_eq, Contains, Some, refl, ap, sym, subst, ◌∙◌, inl, inr, append-nil, arith}
 use Rattle.std.proofs.lemmas.Bool.{cases_eq, eq-eqb, eqb-true, ne_eqb}
 use Rattle.pico_base.specs.declared.call.Call.{Call}
 use Rattle.pico_base.specs.declared.numbers.Kind.{Kind}
@@ -15,6 +15,9 @@ use Rattle.node_model.specs.Cache.{Cache}
 use Rattle.node_model.specs.Caller.{Caller, start_call}
 use Rattle.node_model.specs.Directory.{Directory, held_for}
 use Rattle.node_model.specs.Kinds.{for_kind}
+use Rattle.node_model.specs.Serving.{waiting_as}
+use Rattle.waiting_model.specs.Kernel.{living_at}
+use Rattle.waiting_model.specs.Marks.{Alive}
 use Rattle.world_model.specs.Node.{Node, Stage, Living, Left}
 use Rattle.world_model.specs.Starting.{run}
 use Rattle.world_model.specs.Step.{Step}
@@ -22,7 +25,9 @@ use Rattle.world_model.specs.World.{World, node_count, world_after, is_checkpoin
 use Rattle.world_laws.specs.Places.{Beside, CallPlace, call_in}
 use Rattle.world_laws.specs.Sights.{node_of, directory_of, is_born_in}
 use Rattle.world_laws.specs.Names.{NameHolds, name_sight}
-use Rattle.world_laws.specs.Callers.{CallHolds, CallSight, HasCall, IsBetween, IsSoFar, IsToBeMade, asked_of, call_sight, frame_at, is_about, is_at_work, is_end_place, is_held_at, is_in_hand, is_in_stream, is_item_about, lease_is_over, may_be_in, only_if}
+use Rattle.world_laws.specs.Callers.{CallHolds, CallSight, HasCall, IsBetween, IsSoFar, IsToBeMade, asked_of, call_sight, frame_at, is_about, is_at_work, is_end_place, is_held_at, is_in_hand, is_in_stream, is_waiting_at, is_item_about, lease_is_over, may_be_in, only_if}
+use Rattle.world_laws.specs.Cancels.{CancelHolds, Nothing, cancel_sight, is_cancel_of, is_held_cancel_of}
+use Rattle.world_laws.specs.Wholes.{HasMarks, under_way_at}
 use Rattle.world_laws.specs.Families.{HoldsIn, NodeHolds}
 use Rattle.world_laws.specs.Invariant.{Holds, MayBe}
 use Rattle.world_laws.specs.Ranges.{FewRanges, KindHolds, has_lease, kind_sight, lease_in}
@@ -32,14 +37,18 @@ use Rattle.world_laws.proofs.LeftAlone.{LeavesName, few-still, kind-left-alone, 
 use Rattle.world_laws.proofs.Sends.{frame_if}
 use Rattle.world_laws.proofs.Stays.{IsMore, SameCall, call-stays, kind-stays, name-stays}
 use Rattle.world_laws.proofs.Steps.{KeepsAs, changes-by-run, run-steps}
-use Rattle.rule_laws.proofs.CallMoves.{IsCallMove, call-move-keeps, move-born, ranges-still, same-but-call, steps-still}
+use Rattle.world_laws.proofs.Wholes.{LeavesWhole, is_to_be_made, marks-of-others, whole-left-alone}
+use Rattle.rule_laws.proofs.CallMoves.{IsCallMove, cancel-if-same, call-move-keeps, move-born, ranges-still, same-but-call, steps-still}
 use Rattle.rule_laws.proofs.own.Runs.{Starts}
+use Rattle.rule_laws.proofs.own.Starting.{cancel-started, marks-started}
 
 -- the call as it is asked for
 abbrev pub asked_now : Node → Call → Asked
 asked_now n call = record { caller = n.number; ticket = n.caller.ticket + 1; pid = n.pid; call = call }
 
--- The frame, to this node, is where the call is now; it is about no name, no end and no birth, and brings no numbers.
+-- The frame, to this node, is where the call is now; it is about no name, no end and no birth, brings no numbers, and
+-- is
+-- no withdrawal.
 pub record GoesOut (script : Script) (w : World) (p : ℕ) (call : Call) (place : CallPlace) (to : ℕ) (frame : Frame)
     (cache : Cache) : Type 0 where
   pub low : 1 ≤ to
@@ -49,10 +58,13 @@ pub record GoesOut (script : Script) (w : World) (p : ℕ) (call : Call) (place 
   pub in_stream : (t q : ℕ) → is_in_stream place p t q ≡ (nat_eq t to && nat_eq q p)
   pub not_held : (name : Name) → is_held_at place name ≡ false
   pub not_in_hand : is_in_hand place ≡ false
+  pub not_waiting : (name : Name) → is_waiting_at place name ≡ false
+  pub not_made : is_to_be_made place ≡ true
   pub no_end : is_end_place place ≡ false
   pub no_lease_place : (kind : Kind) → has_lease kind place ≡ false
   pub about : is_about p to p frame ≡ true
   pub about_none : (y : ℕ) → y ≢ p → is_about y to p frame ≡ false
+  pub no_cancel : (y : ℕ) → is_cancel_of y frame ≡ false
   pub plain : is_plain frame ≡ true
   pub no_birth : is_checkpoint frame ≡ false
   pub no_lease : (kind : Kind) → lease_in kind frame ≡ []
@@ -86,7 +98,7 @@ module _ (script : Script) (w : World) (b : Beside) (holds : Holds script w [] b
   sends = (to, frame) ∷ []
 
   abbrev after : Step
-  after = record { node = after-node; entries = []; sends = sends }
+  after = record { node = after-node; entries = []; sends = sends; strikes = false }
 
   abbrev next : World
   next = world_after w p after
@@ -126,7 +138,28 @@ module _ (script : Script) (w : World) (b : Beside) (holds : Holds script w [] b
       (λ t q. filter-is-list-map (is_about p t q)) tt t q
       ∙ s.nowhere.in_streams t q
 
-  move : IsCallMove script w next [] [] b b.deed calls-now p after-node [] sends p
+  own-marks : (a : Alive) → living_at b.whole (b.pids p) ≡ Some a → HasMarks (calls-now p) (under_way_at next p) a
+  own-marks a lives =
+      subst (λ o. HasMarks (calls-now p) o a) (sym (ap (λ (m : Node). m.caller.under_way) changes.here))
+      (subst (λ c. HasMarks c (Some call) a) (sym (ap (λ t. if t then place else b.call p) (eq-eqb p p refl)))
+      (marks-started script w b holds p low high s place a g.not_made lives))
+
+  leaves-whole : LeavesWhole w next b moved
+  leaves-whole =
+      record {
+        journal_is = changes.journal ∙ append-nil w.journal;
+        lines_are = refl;
+        kernel_is = refl;
+        whole_is = refl;
+        pids_are = λ y. refl;
+        bodies_are = λ name. refl;
+        marks_still = λ y a lives. marks-of-others w next b.call calls-now p
+            (λ y d. ap (λ t. if t then place else b.call y) (ne_eqb p y (λ e. d (sym e))))
+            (λ y d. ap (λ (m : Node). m.caller.under_way) (changes.others y d)) y a
+            (λ e marks. own-marks a (subst (λ z. living_at b.whole (b.pids z) ≡ Some a) e lives));
+      }
+
+  move : IsCallMove script w next [] [] Nothing Nothing b moved p after-node [] sends p
   move =
       record {
         stage = refl;
@@ -140,12 +173,18 @@ module _ (script : Script) (w : World) (b : Beside) (holds : Holds script w [] b
         calls = λ y d. ap (λ t. if t then place else b.call y) (ne_eqb p y (λ e. d (sym e)));
         hand_of_others = λ y d. refl;
         parcels_at_hand = λ parcel there. there;
+        whole = whole-left-alone w next b moved Nothing leaves-whole;
+        waiters_of_others = λ y d name. refl;
+        cancel_of_others = λ y d. refl;
+        owed_of_others = λ y d same h. cancel-if-same y Nothing _ _ refl same h;
         plain_taken = tt;
         plain_sent = (g.plain, tt);
         no_birth_taken = tt;
         no_birth_sent = (g.no_birth, tt);
         of_no_other = λ y d. tt;
         sent_of_no_other = λ y d. (g.about_none y d, tt);
+        no_cancel_taken = λ y d. tt;
+        no_cancel_sent = λ y d. (g.no_cancel y, tt);
         may_be_sent = (g.may_be, tt);
         to_others = (g.other, tt);
       }
@@ -154,7 +193,7 @@ module _ (script : Script) (w : World) (b : Beside) (holds : Holds script w [] b
       left-not h = cc
 
   more : IsMore (is_born_in w) (is_born_in next)
-  more = move-born script w next [] [] b b.deed calls-now p after-node [] sends p low high holds changes move
+  more = move-born script w next [] [] Nothing Nothing b moved p after-node [] sends [] p low high holds changes move
 
   -- the call
 
@@ -185,12 +224,15 @@ module _ (script : Script) (w : World) (b : Beside) (holds : Holds script w [] b
           held_for_names = λ name. s.nowhere.held_for_names name
               ∙ ap (λ u. only_if u (Request (asked_of out call))) (sym (g.not_held name));
           in_hand = s.nowhere.in_hand ∙ ap (λ u. only_if u (Request (asked_of out call))) (sym g.not_in_hand);
+          waiting = λ name. s.nowhere.waiting name
+              ∙ ap (λ u. only_if u (waiting_as (asked_of out call))) (sym (g.not_waiting name));
         };
         home = g.home;
         used_up = g.used_up;
         between = g.between;
         so_far = g.to_be_made out is-to-be-made;
         at_work = ap is_at_work s.stage;
+        started = omega arith;
         tickets = let few = s.free.tickets in omega (arith, few);
         try_left = s.free.try_left;
       }
@@ -229,10 +271,18 @@ module _ (script : Script) (w : World) (b : Beside) (holds : Holds script w [] b
             ∙ sent-one t q (nat_eq t to) (nat_eq q p) refl refl);
         held = λ m. sym (ap (λ (d : Directory). filter (is_item_about p) (held_for d m)) same-there);
         hand = refl;
+        waiters = λ m. refl;
       }
 
   call-now : CallHolds script p (is_born_in next) (call_sight next [] moved p)
   call-now = call-stays script p (is_born_in w) (is_born_in next) _ _ more sight-now call-out
+
+  cancel-now : CancelHolds p Nothing (cancel_sight next [] moved p)
+  cancel-now =
+      cancel-started script w b holds p low high s next [] after-node [] sends [] changes moved refl refl refl refl refl
+      refl
+      (λ m. ap (λ (d : Directory). filter (is_held_cancel_of p) (held_for d m)) same-there) refl tt (g.no_cancel p, tt)
+      (is_born_in next) call-now
 
   -- names and numbers
 
@@ -241,15 +291,18 @@ module _ (script : Script) (w : World) (b : Beside) (holds : Holds script w [] b
       record {
         directory = same-directory (directory_of w) (directory_of next) same-there m;
         used_is = refl;
+        part_is = refl;
         body_is = refl;
         deed_is = refl;
         held_is = refl;
         begins_is = λ holds_it comes. refl;
         hand_is = refl;
-        steps_are = λ y. steps-still script w next [] [] b b.deed calls-now p after-node [] sends p low high holds
-            changes move y (left-alone y 1) m;
-        ranges_are = λ y. ranges-still script w next [] [] b b.deed calls-now p after-node [] sends p low high holds
-            changes move y (left-alone y 1) m;
+        steps_are = λ used y. steps-still script w next [] [] Nothing Nothing b moved p after-node [] sends [] p low
+            high holds
+            changes move used y (left-alone y 1) m;
+        ranges_are = λ used y. ranges-still script w next [] [] Nothing Nothing b moved p after-node [] sends [] p low
+            high holds
+            changes move used y (left-alone y 1) m;
       }
 
   names-now : (m : Name) → NameHolds script b.pids (is_born_in next) m (name_sight script next [] moved m)
@@ -284,6 +337,7 @@ module _ (script : Script) (w : World) (b : Beside) (holds : Holds script w [] b
       record {
         next = next;
         is_step = run-steps script w p after holds.shape low high rule;
-        holds = call-move-keeps script w next [] [] b b.deed calls-now p after-node [] sends p low high holds changes
-            move call-now names-now numbers-now few-now;
+        holds = call-move-keeps script w next [] [] Nothing Nothing b moved p after-node [] sends [] p low high holds
+            changes
+            move call-now cancel-now names-now numbers-now few-now;
       }

@@ -1,5 +1,5 @@
 -- Each call of a process on itself: it is carried out, it forks, it makes a queue or set, or it is refused.
-use Rattle.std.proofs.Common.{◌≡◌, ℕ, Bool, true, false, not, ◌&&◌, Some, None, Result, Ok, Err, refl}
+use Rattle.std.proofs.Common.{◌≡◌, ℕ, Bool, true, false, Some, None, Result, Ok, Err, refl, sym}
 use Rattle.std.proofs.lemmas.Bool.{false≢true}
 use Rattle.pico_base.specs.declared.call.Call.{Call}
 use Rattle.pico_base.specs.declared.call.Call.TheVariants as calls
@@ -7,15 +7,16 @@ use Rattle.pico_base.specs.declared.reply.Errno.{Errno}
 use Rattle.pico_base.specs.declared.script.Event.{Event}
 use Rattle.pico_base.specs.declared.script.Script.{Script}
 use Rattle.kernel_model.specs.SemaphoreSet.{SemaphoreSet, new_set}
-use Rattle.kernel_model.specs.Waiting.{is_waiting}
-use Rattle.node_model.specs.Carrying.{is_own, is_served, makes_or_ends}
+use Rattle.waiting_model.specs.Calls.{is_withdrawal}
+use Rattle.waiting_model.specs.Linear.{at_once}
+use Rattle.node_model.specs.Carrying.{is_own, is_served}
 use Rattle.world_model.specs.World.{World}
 use Rattle.world_laws.specs.Places.{Beside, CallPlace}
 use Rattle.world_laws.proofs.Steps.{KeepsAs}
 
 -- what a call of one's own is
 pub data OwnCase (call : Call) : Type 0 where
-  serves : is_served call ≡ true → OwnCase call
+  serves : is_served (at_once call) ≡ true → OwnCase call
   forks : (block : ℕ) → call ≡ calls.Fork block → OwnCase call
   makes-queue : (create excl : Bool) → call ≡ calls.MsgGet None create excl → OwnCase call
   makes-set : (count : ℕ) (create excl : Bool) (set : SemaphoreSet) → call ≡ calls.SemGet None count create excl
@@ -23,19 +24,13 @@ pub data OwnCase (call : Call) : Type 0 where
   is-refused : (count : ℕ) (create excl : Bool) (error : Errno) → call ≡ calls.SemGet None count create excl
       → new_set count ≡ Err error → OwnCase call
 
-served-by : (call : Call) → makes_or_ends call ≡ false → is_waiting call ≡ false → is_served call ≡ true
-served-by call h g = both (makes_or_ends call) (is_waiting call) h g
-  where
-    both : (a c : Bool) → a ≡ false → c ≡ false → (not a && not c) ≡ true
-    both a c h g = rw (h, g) refl
-
 set-case : (count : ℕ) (create excl : Bool) (r : Result SemaphoreSet Errno) → new_set count ≡ r
     → OwnCase (calls.SemGet None count create excl)
 set-case count create excl (Ok set) is = makes-set count create excl set refl is
 set-case count create excl (Err error) is = is-refused count create excl error refl is
 
 -- each own call is one of these
-pub own-case : (pid : ℕ) (call : Call) → is_own pid call ≡ true → is_waiting call ≡ false → OwnCase call
+pub own-case : (pid : ℕ) (call : Call) → is_own pid call ≡ true → is_withdrawal call ≡ false → OwnCase call
 own-case pid (calls.Fork block) own h = forks block refl
 own-case pid (calls.MsgGet None create excl) own h = makes-queue create excl refl
 own-case pid (calls.MsgGet (Some key) create excl) own h = absurd (false≢true own)
@@ -43,7 +38,9 @@ own-case pid (calls.SemGet None count create excl) own h = set-case count create
 own-case pid (calls.SemGet (Some key) count create excl) own h = absurd (false≢true own)
 own-case pid (calls.Exit status) own h = absurd (false≢true own)
 own-case pid (calls.Killed sig) own h = absurd (false≢true own)
-own-case pid call own h = serves (served-by call refl h)
+own-case pid (calls.SemOp id steps) own h = absurd (false≢true own)
+own-case pid (calls.Withdraw name) own h = absurd (false≢true (sym h))
+own-case pid call own h = serves refl
 
 -- an event has a step, and the invariant holds after it, with calls in such places
 pub record Keeps (script : Script) (w : World) (e : Event) (After : (ℕ → CallPlace) → Type 0) : Type 0 where

@@ -1,17 +1,27 @@
 -- A name whose deed is in the table of a node, and has another body after an entry.
-use Rattle.std.proofs.Common.{◌≡◌, ℕ, Bool, true, false, ◌&&◌, not, if◌then◌else◌, List, filter, flat_map, nat_eq, Some, None, is_some, refl, ap, sym, subst, ◌∙◌, inl, inr}
-use Rattle.std.proofs.lemmas.Bool.{cases_eq}
+use Rattle.std.proofs.Common.{◌≡◌, ℕ, Bool, true, false, ◌&&◌, not, if◌then◌else◌, List, [], filter, flat_map, nat_eq, Option, Some, None, is_some, refl, ap, sym, subst, ◌∙◌, inl, inr}
+use Rattle.std.specs.List.{AllByRecursion}
+use Rattle.std.proofs.lemmas.Bool.{cases_eq, false≢true}
 use Rattle.pico_base.specs.declared.numbers.Name.{Name}
+use Rattle.pico_base.specs.declared.numbers.Name.TheVariants.{Proc, Msg, Sem}
 use Rattle.pico_base.specs.declared.reply.Entry.{Entry}
 use Rattle.pico_base.specs.declared.script.Script.{Script}
 use Rattle.rpc_frame.specs.declared.frame.Frame.{Frame}
+use Rattle.number_maps.specs.Maps.{get}
+use Rattle.kernel_model.specs.Kernel.{Kernel, Process}
+use Rattle.kernel_model.specs.Kernel as kernel
+use Rattle.kernel_model.specs.Queue.{Queue}
+use Rattle.kernel_model.specs.SemaphoreSet.{SemaphoreSet}
+use Rattle.kernel_model.specs.Valid.{IsValid}
+use Rattle.waiting_model.specs.Waiters.{Awaited}
 use Rattle.entry_laws.specs.Entering.{is_used_name}
+use Rattle.entry_laws.proofs.Fresh.{nothing_at, unused-body}
 use Rattle.node_model.specs.declared.held.Held.{Held}
 use Rattle.node_model.specs.Kinds.{get_named}
 use Rattle.node_model.specs.Directory.{maker, is_parcel_with}
-use Rattle.node_model.specs.Bodies.{Body, body_in}
+use Rattle.node_model.specs.Bodies.{Body, AQueue, ASet, Living, Ended, Gone, Removed, bare, body_in, process_body, queue_body, set_body, waiters_of}
 use Rattle.world_model.specs.Census.{brings}
-use Rattle.world_model.specs.Node.{Node}
+use Rattle.world_model.specs.Node.{Node, is_node}
 use Rattle.world_model.specs.World.{World}
 use Rattle.world_laws.specs.Places.{DeedPlace, InTable, Beside}
 use Rattle.world_laws.specs.Sights.{frames_to, directory_of, stage_of}
@@ -23,9 +33,86 @@ use Rattle.world_laws.proofs.LeftAlone.{AreNotAbout, DirectoryLeaves}
 use Rattle.world_laws.proofs.NameFacts.{held-elsewhere, held-here}
 use Rattle.world_laws.proofs.Stays.{SameName}
 
--- the same name, with another body where its deed is held
-abbrev pub rebodied : NameSight → Body → NameSight
-rebodied x body = record x { body = body; held = held_as x.deed body }
+-- the same name, with another body where its deed is held, and another part in the kernel
+abbrev pub rebodied : NameSight → Body → Body → NameSight
+rebodied x part body = record x { part = part; body = body; held = held_as x.deed body }
+
+-- a queue or a set
+abbrev is_awaited : Body → Bool
+is_awaited (AQueue q) = true
+is_awaited (ASet s) = true
+is_awaited body = false
+
+-- the body is this part of the kernel, with those who wait there, who have nodes of the script
+pub record IsBodyOf (script : Script) (part body : Body) : Type 0 where
+  pub parts : bare body ≡ part
+  pub callers : AllByRecursion (λ w. is_node script w.caller ≡ true) (waiters_of body)
+
+queue-of : (script : Script) (o : Option Queue) → IsBodyOf script (queue_body o) (queue_body o)
+queue-of script None = record { parts = refl; callers = tt }
+queue-of script (Some q) = record { parts = refl; callers = tt }
+
+set-of : (script : Script) (o : Option SemaphoreSet) → IsBodyOf script (set_body o) (set_body o)
+set-of script None = record { parts = refl; callers = tt }
+set-of script (Some s) = record { parts = refl; callers = tt }
+
+process-of : (script : Script) (o : Option Process) → IsBodyOf script (process_body o) (process_body o)
+process-of script None = record { parts = refl; callers = tt }
+process-of script (Some (kernel.Living a)) = record { parts = refl; callers = tt }
+process-of script (Some (kernel.Ended ending)) = record { parts = refl; callers = tt }
+process-of script (Some kernel.Gone) = record { parts = refl; callers = tt }
+
+-- where nobody waits it is the part itself
+pub nobody-waits-in : (script : Script) (k : Kernel) (name : Name) → IsBodyOf script (body_in k name) (body_in k name)
+nobody-waits-in script k (Proc pid) = process-of script (get k.processes pid)
+nobody-waits-in script k (Msg id) = queue-of script (get k.queues id)
+nobody-waits-in script k (Sem id) = set-of script (get k.sets id)
+
+nobody-at-process : (o : Option Process) → waiters_of (process_body o) ≡ []
+nobody-at-process None = refl
+nobody-at-process (Some (kernel.Living a)) = refl
+nobody-at-process (Some (kernel.Ended ending)) = refl
+nobody-at-process (Some kernel.Gone) = refl
+
+nobody-at-queue : (o : Option Queue) → waiters_of (queue_body o) ≡ []
+nobody-at-queue None = refl
+nobody-at-queue (Some q) = refl
+
+nobody-at-set : (o : Option SemaphoreSet) → waiters_of (set_body o) ≡ []
+nobody-at-set None = refl
+nobody-at-set (Some s) = refl
+
+-- nobody waits in the part
+pub nobody-waits : (k : Kernel) (name : Name) → waiters_of (body_in k name) ≡ []
+nobody-waits k (Proc pid) = nobody-at-process (get k.processes pid)
+nobody-waits k (Msg id) = nobody-at-queue (get k.queues id)
+nobody-waits k (Sem id) = nobody-at-set (get k.sets id)
+
+queue-no-other : (q : Awaited Queue) (v : Body) → is_awaited v ≡ false → AQueue q ≡ v → ⊥
+queue-no-other q v none h = false≢true (sym none ∙ ap is_awaited (sym h))
+
+set-no-other : (s : Awaited SemaphoreSet) (v : Body) → is_awaited v ≡ false → ASet s ≡ v → ⊥
+set-no-other s v none h = false≢true (sym none ∙ ap is_awaited (sym h))
+
+-- nobody waits at a body that is no queue and no set
+nobody-else : (v part : Body) → bare v ≡ part → is_awaited part ≡ false → waiters_of v ≡ []
+nobody-else (AQueue q) part is none = absurd (queue-no-other _ part none is)
+nobody-else (ASet s) part is none = absurd (set-no-other _ part none is)
+nobody-else (Living row) part is none = refl
+nobody-else (Ended ending) part is none = refl
+nobody-else Gone part is none = refl
+nobody-else Removed part is none = refl
+
+nothing-awaited : (name : Name) → is_awaited (nothing_at name) ≡ false
+nothing-awaited (Proc pid) = refl
+nothing-awaited (Msg id) = refl
+nothing-awaited (Sem id) = refl
+
+-- where nothing has the name nobody waits
+pub nobody-at-unused : (k : Kernel) (name : Name) (v : Body) → IsValid k → is_used_name k name ≡ false
+    → bare v ≡ body_in k name → waiters_of v ≡ []
+nobody-at-unused k name v valid unused is =
+    nobody-else v (nothing_at name) (is ∙ unused-body k name valid unused) (nothing-awaited name)
 
 same-some : (t : Bool) (a c : Body) → is_some (if t then Some a else None) ≡ is_some (if t then Some c else None)
 same-some true a c = refl
@@ -33,10 +120,12 @@ same-some false a c = refl
 
 -- all holds of it as before
 pub name-rebodied : (script : Script) (pids : ℕ → ℕ) (born : ℕ → Bool) (name : Name) (x : NameSight) (node : ℕ)
-    (body : Body) → x.deed ≡ InTable node → NameHolds script pids born name x
-    → NameHolds script pids born name (rebodied x body)
-name-rebodied script pids born name x node body at h =
+    (part body : Body) → IsBodyOf script part body → x.deed ≡ InTable node → NameHolds script pids born name x
+    → NameHolds script pids born name (rebodied x part body)
+name-rebodied script pids born name x node part body is at h =
     record {
+      parts = is.parts;
+      callers = is.callers;
       made = h.made;
       place_fits = h.place_fits;
       tables = λ q. refl;
@@ -75,20 +164,20 @@ pub record RebodiesName (w w' : World) (hand hand' : List Held) (b b' : Beside) 
   pub used_is : is_used_name b'.kernel name ≡ is_used_name b.kernel name
   pub deed_was : b.deed name ≡ InTable p
   pub deed_is : b'.deed name ≡ b.deed name
-  pub held_is : get_named n.deeds name ≡ Some (body_in b'.kernel name)
+  pub held_is : get_named n.deeds name ≡ Some (b'.body name)
   pub begins_is : (holds comes : Bool) → begin n.stage holds comes ≡ begin (stage_of w p) holds comes
   pub hand_is : filter (is_parcel_with name) hand' ≡ filter (is_parcel_with name) hand
-  pub steps_are : (h : ℕ) → plays b'.call name (left h 1) ≡ plays b.call name (left h 1)
-  pub ranges_are : (h : ℕ)
-      → flat_map (range_steps_of b'.call name) (left h 1) ≡ flat_map (range_steps_of b.call name) (left h 1)
+  pub steps_are : (used : Bool) (h : ℕ) → plays used b'.call name (left h 1) ≡ plays used b.call name (left h 1)
+  pub ranges_are : (used : Bool) (h : ℕ)
+      → flat_map (range_steps_of used b'.call name) (left h 1) ≡ flat_map (range_steps_of used b.call name) (left h 1)
 
 module _ (script : Script) (p : ℕ) (w w' : World) (n : Node) (takes sends : List (ℕ × Frame)) (entries : List Entry)
     (c : Changes script p w w' n takes sends entries) where
   -- it is seen with that body
   pub name-seen-rebodied : (hand hand' : List Held) (b b' : Beside) (name : Name)
-      → ((h : ℕ) → held_at w name h ≡ held_as (b.deed name) (body_in b.kernel name) h)
+      → ((h : ℕ) → held_at w name h ≡ held_as (b.deed name) (b.body name) h)
       → RebodiesName w w' hand hand' b b' p n c.left name → AreNotAbout name takes → AreNotAbout name sends
-      → SameName (rebodied (name_sight script w hand b name) (body_in b'.kernel name))
+      → SameName (rebodied (name_sight script w hand b name) (body_in b'.kernel name) (b'.body name))
       (name_sight script w' hand' b' name)
   name-seen-rebodied hand hand' b b' name tables l none_taken none_sent =
       let d : DirectoryLeaves (directory_of w) (directory_of w') name = l.directory
@@ -97,6 +186,7 @@ module _ (script : Script) (p : ℕ) (w w' : World) (n : Node) (takes sends : Li
         maker = sym d.maker_is;
         stays = λ x. sym (d.stays_is x);
         used = sym l.used_is;
+        part = refl;
         body = refl;
         deed = sym l.deed_is;
         held = λ h. held-now h;
@@ -116,21 +206,21 @@ module _ (script : Script) (p : ℕ) (w w' : World) (n : Node) (takes sends : Li
         news = λ q. sym (news-same q);
       }
     where
-      was-held : (h : ℕ) → held_at w name h ≡ held_as (InTable p) (body_in b.kernel name) h
-      was-held h = tables h ∙ ap (λ (d : DeedPlace). held_as d (body_in b.kernel name) h) l.deed_was
+      was-held : (h : ℕ) → held_at w name h ≡ held_as (InTable p) (b.body name) h
+      was-held h = tables h ∙ ap (λ (d : DeedPlace). held_as d (b.body name) h) l.deed_was
 
-      held-now : (h : ℕ) → held_as (b.deed name) (body_in b'.kernel name) h ≡ held_at w' name h
+      held-now : (h : ℕ) → held_as (b.deed name) (b'.body name) h ≡ held_at w' name h
       held-now h =
-          ap (λ (d : DeedPlace). held_as d (body_in b'.kernel name) h) l.deed_was
+          ap (λ (d : DeedPlace). held_as d (b'.body name) h) l.deed_was
           ∙ elim (cases_eq h p) [
             | inl e ↦
-                subst (λ y. held_as (InTable p) (body_in b'.kernel name) y ≡ held_at w' name y) (sym e)
-                (held-here p (body_in b'.kernel name)
+                subst (λ y. held_as (InTable p) (b'.body name) y ≡ held_at w' name y) (sym e)
+                (held-here p (b'.body name)
                 ∙ sym (ap (λ (m : Node). get_named m.deeds name) c.here ∙ l.held_is))
             | inr d ↦
-                held-elsewhere p h (body_in b'.kernel name) d
+                held-elsewhere p h (b'.body name) d
                 ∙ sym (ap (λ (m : Node). get_named m.deeds name) (c.others h d) ∙ was-held h
-                ∙ held-elsewhere p h (body_in b.kernel name) d)
+                ∙ held-elsewhere p h (b.body name) d)
           ]
 
       comes-same : (h : ℕ) → comes_to script w' name h ≡ comes_to script w name h
@@ -151,29 +241,35 @@ module _ (script : Script) (p : ℕ) (w w' : World) (n : Node) (takes sends : Li
           (ap (λ o. begin n.stage (is_some o) (comes_to script w name h)) l.held_is
           ∙ l.begins_is true (comes_to script w name h)
           ∙ sym (ap (λ o. begin (stage_of w p) (is_some o) (comes_to script w name h))
-          (was-held p ∙ held-here p (body_in b.kernel name)))) h
+          (was-held p ∙ held-here p (b.body name)))) h
 
-      steps-same : (h : ℕ) → plays b'.call name (frames_to w' h 1) ≡ plays b.call name (frames_to w h 1)
+      steps-same : (h : ℕ)
+          → plays (is_used_name b'.kernel name) b'.call name (frames_to w' h 1)
+          ≡ plays (is_used_name b.kernel name) b.call name (frames_to w h 1)
       steps-same h =
-          only-stayed script p w w' n takes sends entries c (λ t s fs. plays b'.call name fs)
-          (λ t s. flat_map-is-list-map _)
-          (all-weaker (λ s. no-steps b'.call name s.1) sends none_sent) h 1
-          ∙ l.steps_are h
-          ∙ stayed script p w w' n takes sends entries c (λ t s fs. plays b.call name fs)
-          (λ t s. flat_map-is-list-map _)
-          (all-weaker (λ s. no-steps b.call name s.1) takes none_taken) h 1
+          ap (λ u. plays u b'.call name (frames_to w' h 1)) l.used_is
+          ∙ only-stayed script p w w' n takes sends entries c
+          (λ t s fs. plays (is_used_name b.kernel name) b'.call name fs) (λ t s. flat_map-is-list-map _)
+          (all-weaker (λ s. no-steps (is_used_name b.kernel name) b'.call name s.1) sends none_sent) h 1
+          ∙ l.steps_are (is_used_name b.kernel name) h
+          ∙ stayed script p w w' n takes sends entries c
+          (λ t s fs. plays (is_used_name b.kernel name) b.call name fs) (λ t s. flat_map-is-list-map _)
+          (all-weaker (λ s. no-steps (is_used_name b.kernel name) b.call name s.1) takes none_taken) h 1
 
       ranges-same : (h : ℕ)
-          → flat_map (range_steps_of b'.call name) (frames_to w' h 1)
-          ≡ flat_map (range_steps_of b.call name) (frames_to w h 1)
+          → flat_map (range_steps_of (is_used_name b'.kernel name) b'.call name) (frames_to w' h 1)
+          ≡ flat_map (range_steps_of (is_used_name b.kernel name) b.call name) (frames_to w h 1)
       ranges-same h =
-          only-stayed script p w w' n takes sends entries c (λ t s fs. flat_map (range_steps_of b'.call name) fs)
+          ap (λ u. flat_map (range_steps_of u b'.call name) (frames_to w' h 1)) l.used_is
+          ∙ only-stayed script p w w' n takes sends entries c
+          (λ t s fs. flat_map (range_steps_of (is_used_name b.kernel name) b'.call name) fs)
           (λ t s. flat_map-is-list-map _)
-          (all-weaker (λ s. no-ranges b'.call name s.1) sends none_sent) h 1
-          ∙ l.ranges_are h
-          ∙ stayed script p w w' n takes sends entries c (λ t s fs. flat_map (range_steps_of b.call name) fs)
+          (all-weaker (λ s. no-ranges (is_used_name b.kernel name) b'.call name s.1) sends none_sent) h 1
+          ∙ l.ranges_are (is_used_name b.kernel name) h
+          ∙ stayed script p w w' n takes sends entries c
+          (λ t s fs. flat_map (range_steps_of (is_used_name b.kernel name) b.call name) fs)
           (λ t s. flat_map-is-list-map _)
-          (all-weaker (λ s. no-ranges b.call name s.1) takes none_taken) h 1
+          (all-weaker (λ s. no-ranges (is_used_name b.kernel name) b.call name s.1) takes none_taken) h 1
 
       news-same : (q : ℕ)
           → news name (is_used_name b'.kernel name && is_maker (maker (directory_of w') name) q) (frames_to w' 1 q)

@@ -1,6 +1,6 @@
 -- A node carries out a call of its process that is refused, and takes no number: a set of a size that there isn't. An
 -- entry that changes nothing.
-use Rattle.std.proofs.Common.{◌≡◌, ℕ, ◌+◌, ◌≤◌, Bool, true, false, if◌then◌else◌, [], ◌∷◌, filter, nat_eq, Some, None, refl, ap, sym, subst, ◌∙◌, inl, inr, Err, is_some}
+use Rattle.std.proofs.Common.{◌≡◌, ℕ, ◌+◌, ◌≤◌, Bool, true, false, if◌then◌else◌, [], ◌∷◌, ◌++◌, filter, nat_eq, Some, None, refl, ap, sym, subst, ◌∙◌, inl, inr, Err, is_some}
 use Rattle.std.proofs.lemmas.Bool.{eq-eqb, false≢true}
 use Rattle.pico_base.specs.declared.call.Call.{Call}
 use Rattle.pico_base.specs.declared.call.Call.TheVariants as calls
@@ -14,7 +14,13 @@ use Rattle.pico_base.specs.Home.{home_of}
 use Rattle.rpc_frame.specs.declared.frame.Frame.TheVariants as frames
 use Rattle.number_maps.specs.Maps.{get, is_used}
 use Rattle.kernel_model.specs.Fitting.{Place, Places, place_after, places_after, IsDue, due, is_killed, move_on}
+use Rattle.kernel_model.specs.Effect.{reply_alone}
+use Rattle.kernel_model.specs.History.{number_in}
 use Rattle.kernel_model.specs.Kernel.{Kernel}
+use Rattle.kernel_model.specs.Transition.{successor, transition}
+use Rattle.waiting_model.specs.Calls.{may_park}
+use Rattle.waiting_model.specs.Linear.{at_once, counts_waiters, line_of}
+use Rattle.waiting_laws.proofs.Leads.{is_of_process, waits_for_child}
 use Rattle.kernel_model.specs.Script.{IsSoundScript, is_exit, is_fork}
 use Rattle.entry_laws.specs.Entering.{HasHistory, LeavesOthers, MayMake, Same}
 use Rattle.entry_laws.proofs.History.{history-goes-on, moved-is, place-moves, places-stay}
@@ -22,7 +28,8 @@ use Rattle.entry_laws.proofs.Keys.{keys-kept}
 use Rattle.entry_laws.proofs.Numbers.{used-kept, process-there}
 use Rattle.node_model.specs.Caller.{Caller, answer_call, caller_place, start_call}
 use Rattle.node_model.specs.Directory.{Directory, held_for}
-use Rattle.node_model.specs.Kinds.{for_kind}
+use Rattle.node_model.specs.Kinds.{for_kind, is_object}
+use Rattle.node_model.specs.Bodies.{body_in}
 use Rattle.node_model.specs.Entries.{entry_by}
 use Rattle.world_model.specs.Node.{Node, Leader, Stage, Living, Left, can_run}
 use Rattle.world_model.specs.Starting.{run, start_by, start_set}
@@ -30,7 +37,8 @@ use Rattle.world_model.specs.Step.{Step, reply_here, step_to}
 use Rattle.world_model.specs.World.{World, node_count, world_after}
 use Rattle.world_laws.specs.Places.{Beside}
 use Rattle.world_laws.specs.Sights.{node_of, directory_of, is_born_in, is_born_stage}
-use Rattle.world_laws.specs.Callers.{CallHolds, CallSight, call_sight, is_about, is_item_about}
+use Rattle.world_laws.specs.Callers.{CallHolds, CallSight, call_sight, is_about, is_item_about, is_waiter_of}
+use Rattle.world_laws.specs.Cancels.{CancelHolds, Nothing, cancel_sight, is_held_cancel_of}
 use Rattle.world_laws.specs.Families.{HoldsIn, NodeHolds}
 use Rattle.world_laws.specs.Invariant.{Holds}
 use Rattle.world_laws.specs.Ranges.{KeysHold}
@@ -51,7 +59,10 @@ use Rattle.entry_laws.proofs.Kin.{kin-same}
 use Rattle.entry_laws.proofs.Listed.{listed-same}
 use Rattle.entry_laws.proofs.Others.{goes}
 use Rattle.entry_laws.proofs.Places.{goes-on, left-shrinks}
-use Rattle.rule_laws.proofs.own.Answered.{call-answered}
+use Rattle.world_laws.proofs.Lines.{IsAnswered}
+use Rattle.rule_laws.proofs.own.Alone.{after_alone, cancel-alone, does-at-once, others-alone, process-unchanged, process-waiters, whole-alone}
+use Rattle.rule_laws.proofs.own.Answered.{answered-at-once, call-answered}
+use Rattle.rule_laws.proofs.own.Starting.{its-process}
 
 -- such an entry leaves the rest
 pub unchanged-leaves : (k : Kernel) (pid : ℕ) (call : Call) (reply : Reply) (m : MayMake k pid call)
@@ -102,7 +113,10 @@ module _ (script : Script) (sound : IsSoundScript script) (w : World) (b : Besid
   pid = b.pids p
 
   abbrev call : Call
-  call = calls.SemGet None count create excl
+  call = s.call
+
+  abbrev gets : Call
+  gets = calls.SemGet None count create excl
 
   abbrev reply : Reply
   reply = replies.Fail error
@@ -113,52 +127,68 @@ module _ (script : Script) (sound : IsSoundScript script) (w : World) (b : Besid
   node-holds : NodeHolds script b.pids (is_born_in w) p n
   node-holds = holds.nodes p low high
 
-  may : MayMake k pid call
-  may = subst (λ (y : Call). MayMake k pid y) is s.may
-
-  is-due : IsDue place call
-  is-due = subst (λ (y : Call). IsDue place y) is s.due_now.due
-
   pub refused : LeavesAll k pid call reply
-  refused = refuses-private-set k pid count create excl error may bad
+  refused =
+      subst (λ (y : Call). LeavesAll k pid y reply) (sym is)
+      (refuses-private-set k pid count create excl error (subst (λ (y : Call). MayMake k pid y) is s.may) bad)
+
+  pub step : transition k pid (at_once call) (number_in (Some reply))
+      ≡ Some (successor refused.next (reply_alone reply))
+  step =
+      does-at-once k (line_of p pid call reply) refused.next (refused.enters.makes.leads p) (ap counts_waiters is)
+      (ap may_park is)
 
   abbrev started : Caller
   started = start_call n.caller call
 
+  abbrev next-caller : Caller
+  next-caller = answer_call script p started call reply
+
   abbrev after-node : Node
-  after-node = record n { caller = answer_call script p started call reply }
+  after-node = record n { caller = next-caller }
 
   abbrev entry : Entry
   entry = entry_by p pid call reply
 
-  abbrev after : Step
-  after = record { node = after-node; entries = entry ∷ []; sends = [] }
-
-  abbrev step-with : ℕ → ℕ → Step
-  step-with number process =
+  abbrev after-as : Call → ℕ → ℕ → Step
+  after-as y number process =
       record {
-        node = record n { caller = answer_call script number started call reply };
-        entries = entry_by number process call reply ∷ [];
+        node = record n { caller = answer_call script number (start_call n.caller y) y reply };
+        entries = entry_by number process y reply ∷ [];
         sends = [];
+        strikes = false;
       }
+
+  abbrev after : Step
+  after = after-as call p pid
 
   abbrev middle : Step
   middle =
-      record { node = record n { caller = started }; entries = entry_by n.number n.pid call reply ∷ []; sends = [] }
+      record {
+        node = record n { caller = start_call n.caller gets };
+        entries = entry_by n.number n.pid gets reply ∷ [];
+        sends = [];
+        strikes = false;
+      }
+
+  starts-so : start_by script (step_to (record n { caller = start_call n.caller gets })) gets s.row
+      (home_of n.pid gets) ≡ Some (after-as gets p pid)
+  starts-so =
+      ap (start_set script (step_to (record n { caller = start_call n.caller gets })) gets) bad
+      ∙ ap (λ t. Some (if t then reply_here script middle reply
+      (elim (nat_eq (n.caller.ticket + 1) (n.caller.ticket + 1)) [ true ↦ Some gets | false ↦ None ])
+      else record middle { sends = (n.number, frames.Answer (n.caller.ticket + 1) reply) ∷ [] }))
+      (eq-eqb n.number n.number refl)
+      ∙ ap (λ t. Some (reply_here script middle reply (elim t [ true ↦ Some gets | false ↦ None ])))
+      (eq-eqb (n.caller.ticket + 1) (n.caller.ticket + 1) refl)
+      ∙ ap (λ number. Some (after-as gets number n.pid)) node-holds.number
+      ∙ ap (λ process. Some (after-as gets p process)) s.birth.pid_is
 
   rule : run script n ≡ Some after
   rule =
       run-is script sound w b holds p low high can s
-      ∙ ap (λ y. start_by script (step_to (record n { caller = start_call n.caller y })) y s.row (home_of n.pid y)) is
-      ∙ ap (start_set script (step_to (record n { caller = started })) call) bad
-      ∙ ap (λ t. Some (if t then reply_here script middle reply
-      (elim (nat_eq (n.caller.ticket + 1) (n.caller.ticket + 1)) [ true ↦ Some call | false ↦ None ])
-      else record middle { sends = (n.number, frames.Answer (n.caller.ticket + 1) reply) ∷ [] }))
-      (eq-eqb n.number n.number refl)
-      ∙ ap (λ t. Some (reply_here script middle reply (elim t [ true ↦ Some call | false ↦ None ])))
-      (eq-eqb (n.caller.ticket + 1) (n.caller.ticket + 1) refl)
-      ∙ ap (λ number. Some (step-with number n.pid)) node-holds.number
-      ∙ ap (λ process. Some (step-with p process)) s.birth.pid_is
+      ∙ subst (λ y. start_by script (step_to (record n { caller = start_call n.caller y })) y s.row (home_of n.pid y)
+      ≡ Some (after-as y p pid)) (sym is) starts-so
 
   abbrev next : World
   next = world_after w p after
@@ -166,8 +196,25 @@ module _ (script : Script) (sound : IsSoundScript script) (w : World) (b : Besid
   abbrev places-now : Places
   places-now = places_after script b.places entry place
 
+  pub leaves : EntryLeaves k b.places pid refused.next places-now
+  leaves =
+      unchanged-leaves k pid call reply s.may refused (ap is_fork is) (ap is_exit is)
+      (ap is_killed is) script b.places p
+      p n.caller s.free.there s.due_now.due
+
+  pub objects : (m : Name) → is_object m ≡ true → body_in refused.next m ≡ body_in k m
+  objects m object = refused.bodies m
+
+  pub own-home : is_of_process (home_of pid call) ≡ true
+  own-home = ap (λ y. is_of_process (home_of pid y)) is
+
+  pub no-child : waits_for_child (its-process script w b holds p low high s).alive call ≡ false
+  no-child = ap (waits_for_child (its-process script w b holds p low high s).alive) is
+
+  -- what stands beside the world then
   abbrev moved : Beside
-  moved = record b { kernel = refused.next; places = places-now }
+  moved =
+      after_alone script w b holds p low high s reply refused.next places-now step own-home no-child objects leaves
 
   changes : Changes script p w next after-node [] [] (entry ∷ [])
   changes = changes-by-run script w holds.shape p after low high tt
@@ -196,17 +243,18 @@ module _ (script : Script) (sound : IsSoundScript script) (w : World) (b : Besid
       (let l : Leader = (node_of w 1).leader
       in keys-kept l.queue_keys l.set_keys k refused.next refused.keys holds.keys)
 
-  history-now : HasHistory script next.journal refused.next places-now
+  history-now : HasHistory script (b.lines ++ entry ∷ []) refused.next places-now
   history-now =
-      history-goes-on script w.journal k b.places p pid call reply place refused.next holds.history
-      s.free.there
-      is-due refused.enters.makes
+      history-goes-on script b.lines k b.places p pid call reply place refused.next holds.history s.free.there
+      s.due_now.due refused.enters.makes
 
-  move : IsEntryMove script w next [] [] b refused.next places-now b.deed b.call p after-node [] [] p
+  is-answered : IsAnswered script p started call reply next-caller
+  is-answered = answered-at-once script w b holds p low high s reply
+
+  move : IsEntryMove script w next [] [] Nothing Nothing b moved p after-node [] [] p
   move =
       record {
-        entry = unchanged-leaves k pid call reply may refused refl refl refl script b.places p p n.caller s.free.there
-            is-due;
+        entry = leaves;
         history = history-now;
         keys = keys-now;
         forked = s.birth.forked;
@@ -221,12 +269,24 @@ module _ (script : Script) (sound : IsSoundScript script) (w : World) (b : Besid
         calls = λ y d. refl;
         hand_of_others = λ y d. refl;
         parcels_at_hand = λ parcel there. there;
+        whole = whole-alone script w b holds p low high s reply refused.next places-now step own-home no-child objects
+            leaves next after-node changes history-now is-answered.free;
+        waiters_of_others = λ y d m. ap (filter (is_waiter_of y))
+            (process-waiters script w [] Nothing b holds refused.next objects m);
+        cancel_of_others = λ y d. refl;
+        owed_of_others = λ y d. others-alone script w b holds p low high s reply refused.next places-now step own-home
+            no-child objects leaves next after-node changes history-now is-answered.free y d
+            (λ a lives. refused.bodies (Proc (b.pids y))) [] [] Nothing;
+        makers_stay = λ m node unused used. absurd
+            (false≢true (sym unused ∙ sym (used-kept k pid call reply refused.next refused.enters m) ∙ used));
         plain_taken = tt;
         plain_sent = tt;
         no_birth_taken = tt;
         no_birth_sent = tt;
         of_no_other = λ y d. tt;
         sent_of_no_other = λ y d. tt;
+        no_cancel_taken = λ y d. tt;
+        no_cancel_sent = λ y d. tt;
         may_be_sent = tt;
         to_others = tt;
       }
@@ -236,7 +296,7 @@ module _ (script : Script) (sound : IsSoundScript script) (w : World) (b : Besid
 
   more : IsMore (is_born_in w) (is_born_in next)
   more =
-      entry-born script w next [] [] b refused.next places-now b.deed b.call p after-node [] [] (entry ∷ []) p low high
+      entry-born script w next [] [] Nothing Nothing b moved p after-node [] [] (entry ∷ []) p low high
       holds changes move
 
   abbrev ended : CallSight
@@ -248,14 +308,13 @@ module _ (script : Script) (sound : IsSoundScript script) (w : World) (b : Besid
       }
 
   call-ended : CallHolds script p (is_born_in w) ended
-  call-ended =
-      subst (λ (y : Call). CallHolds script p (is_born_in w)
-      (record (call_sight w [] b p) {
-        caller = answer_call script p (start_call n.caller y) y reply;
-        place = Some (place_after place y (Some reply));
-        alive = Some refused.caller.alive;
-      })) is
-      (call-answered script w b holds p low high s reply refused.caller.alive n.leases)
+  call-ended = call-answered script w b holds p low high s reply refused.caller.alive n.leases
+
+  cancel-now : CancelHolds p Nothing (cancel_sight next [] moved p)
+  cancel-now =
+      cancel-alone script w b holds p low high s reply refused.next places-now step own-home no-child objects leaves
+      next after-node changes history-now is-answered.free refl is-answered.ticket_is
+      (λ m. ap (λ (d : Directory). filter (is_held_cancel_of p) (held_for d m)) same-there)
 
   sight-now : SameCall ended (call_sight next [] moved p)
   sight-now =
@@ -265,13 +324,16 @@ module _ (script : Script) (sound : IsSoundScript script) (w : World) (b : Besid
         stage = sym (ap (λ (m : Node). m.stage) changes.here);
         caller = sym (ap (λ (m : Node). m.caller) changes.here);
         leases = sym (ap (λ (m : Node). m.leases) changes.here);
-        place = sym (place-moves script b.places p pid call reply place refl);
+        place = sym (place-moves script b.places p pid call reply place (ap is_fork is)
+            ∙ ap Some (moved-is place call (Some reply) (ap is_killed is)));
         alive = sym refused.caller.lives;
         call = refl;
         frames_about = λ to sender. sym (made-same script p w next after-node [] [] (entry ∷ []) changes
             (λ t q fs. filter (is_about p t q) fs) (λ t q. filter-is-list-map (is_about p t q)) tt tt to sender);
         held = λ m. sym (ap (λ (d : Directory). filter (is_item_about p) (held_for d m)) same-there);
         hand = refl;
+        waiters = λ m. sym (ap (filter (is_waiter_of p))
+            (process-waiters script w [] Nothing b holds refused.next objects m));
       }
 
   leaves-name : (m : Name) → LeavesName w next [] [] b moved p after-node changes.left m
@@ -279,13 +341,14 @@ module _ (script : Script) (sound : IsSoundScript script) (w : World) (b : Besid
       record {
         directory = same-directory (directory_of w) (directory_of next) same-there m;
         used_is = used-kept k pid call reply refused.next refused.enters m;
-        body_is = refused.bodies m;
+        part_is = refused.bodies m;
+        body_is = process-unchanged script w [] Nothing b holds refused.next objects m (refused.bodies m);
         deed_is = refl;
         held_is = refl;
         begins_is = λ holds_it comes. refl;
         hand_is = refl;
-        steps_are = λ y. refl;
-        ranges_are = λ y. refl;
+        steps_are = λ used y. refl;
+        ranges_are = λ used y. refl;
       }
 
   -- The call is refused, and none is under way.
@@ -294,9 +357,9 @@ module _ (script : Script) (sound : IsSoundScript script) (w : World) (b : Besid
       record {
         next = next;
         is_step = run-steps script w p after holds.shape low high rule;
-        holds = entry-keeps script w next [] [] b refused.next places-now b.deed b.call p after-node [] []
+        holds = entry-keeps script w next [] [] Nothing Nothing b moved p after-node [] []
             (entry ∷ []) p low high holds changes move
-            (call-stays script p (is_born_in w) (is_born_in next) _ _ more sight-now call-ended)
+            (call-stays script p (is_born_in w) (is_born_in next) _ _ more sight-now call-ended) cancel-now
             (λ m. name-stays script b.pids (is_born_in w) (is_born_in next) m _ _ more
             (name-left-alone script p w next after-node [] [] (entry ∷ []) changes [] [] b moved m (leaves-name m) tt
             tt) (holds.names m))
@@ -304,7 +367,7 @@ module _ (script : Script) (sound : IsSoundScript script) (w : World) (b : Besid
             (kind-left-alone script p w next after-node [] [] (entry ∷ []) changes k refused.next kind
             (λ number. ap (λ used. is_used used number) (refused.enters.used kind)) refl
             (ap (λ (d : Directory). for_kind d.ranges kind) same-there) tt tt) (holds.kinds kind))
-            (λ kind. few-after script w next [] [] b refused.next places-now b.deed b.call p after-node [] []
+            (λ kind. few-after script w next [] [] Nothing Nothing b moved p after-node [] []
             (entry ∷ []) p low high holds changes move kind
             (ap (λ (d : Directory). for_kind d.ranges kind) same-there) (λ y. refl));
       }

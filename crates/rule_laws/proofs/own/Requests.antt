@@ -1,6 +1,6 @@
 -- A node other than the leader starts a call on a name whose deed it doesn't hold: it asks the owner that its cache
--- names, or the leader.
-use Rattle.std.proofs.Common.{◌≡◌, ◌≢◌, ℕ, ◌+◌, ◌≤◌, true, false, not, if◌then◌else◌, [], Contains, Option, Some, None, refl, ap, sym, ◌∙◌, All}
+-- names, or the leader, and only the leader where the call may have to wait.
+use Rattle.std.proofs.Common.{◌≡◌, ◌≢◌, ℕ, ◌+◌, ◌≤◌, Bool, true, false, not, if◌then◌else◌, [], nat_eq, Contains, Option, Some, None, refl, ap, sym, ◌∙◌, All}
 use Rattle.std.proofs.lemmas.Bool.{eq-eqb, ne_eqb}
 use Rattle.std.proofs.lemmas.List.Elements.{All-cons, All-filter, All-weaker, All-contains, All-contains_itself}
 use Rattle.std.proofs.lemmas.Map.Views.{Contains-from_lookup}
@@ -13,7 +13,8 @@ use Rattle.pico_base.specs.Home.{home_of}
 use Rattle.rpc_frame.specs.declared.frame.Frame.TheVariants as frames
 use Rattle.kernel_model.specs.Script.{IsSoundScript}
 use Rattle.node_model.specs.Cache.{Cache, forget, look, look_by, owner_in}
-use Rattle.node_model.specs.Caller.{start_call}
+use Rattle.waiting_model.specs.Calls.{may_park}
+use Rattle.node_model.specs.Caller.{Caller, start_call}
 use Rattle.node_model.specs.Kinds.{is_same_name}
 use Rattle.world_model.specs.Calls.{is_for_others}
 use Rattle.world_model.specs.Node.{Node, asked_here, can_run, holds}
@@ -76,34 +77,52 @@ module _ (script : Script) (sound : IsSoundScript script) (w : World) (b : Besid
       All-contains IsOwner cache-now (m, owner)
       (looked IsOwner n.cache name owners-were (owner_in n.cache name) refl) there
 
-  rule-by : run script n ≡ request script (step_to started) call (owner_in n.cache name)
-  rule-by =
-      run-is script sound w b holds_all p low high can s
-      ∙ ap (start_by script (step_to (record n { caller = start_call n.caller call })) call s.row) home
-      ∙ ap (λ t. if t
-      then serve_asked script (step_to (record n { caller = start_call n.caller call })) name
-      (asked_here (record n { caller = start_call n.caller call }) call)
-      else request script (step_to started) call (owner_in n.cache name)) elsewhere
+  abbrev begun : Node
+  begun = record n { caller = start_call n.caller call }
 
-  ask-rule : ask script (step_to started) call
-      ≡ Some (send (step_to started) 1 (frames.Ask (n.caller.ticket + 1) n.pid call))
-  ask-rule =
-      ap (λ t. if t then route_call script (step_to started) (asked_here started call)
-      else Some (send (step_to started) 1 (frames.Ask (n.caller.ticket + 1) n.pid call)))
-      (no-leader script sound w b holds_all p low high can s other)
+  -- It isn't served here. One that may have to wait is asked of the leader, whatever the cache says.
+  rule-by : (parks : Bool) → may_park call ≡ parks
+      → run script n
+      ≡ (if parks then ask script (step_to begun) call
+      else request script (step_to started) call (owner_in n.cache name))
+  rule-by parks is =
+      run-is script sound w b holds_all p low high can s
+      ∙ ap (start_by script (step_to begun) call s.row) home
+      ∙ ap (λ t. if t then serve_asked script (step_to begun) name (asked_here begun call)
+      else if may_park call then ask script (step_to begun) call
+      else request script (step_to started) call (owner_in n.cache name)) elsewhere
+      ∙ ap (λ t. if t then ask script (step_to begun) call
+      else request script (step_to started) call (owner_in n.cache name)) is
+
+  ask-rule : (m : Node) → m.number ≡ n.number → m.pid ≡ n.pid → m.caller ≡ start_call n.caller call
+      → ask script (step_to m) call ≡ Some (send (step_to m) 1 (frames.Ask (n.caller.ticket + 1) n.pid call))
+  ask-rule m number pid caller =
+      ap (λ t. if t then route_call script (step_to m) (asked_here m call)
+      else Some (send (step_to m) 1 (frames.Ask m.caller.ticket m.pid call)))
+      (ap (λ k. nat_eq k 1) number ∙ no-leader script sound w b holds_all p low high can s other)
+      ∙ ap (λ (k : Caller). Some (send (step_to m) 1 (frames.Ask k.ticket m.pid call))) caller
+      ∙ ap (λ q. Some (send (step_to m) 1 (frames.Ask (n.caller.ticket + 1) q call))) pid
+
+  -- A call that may have to wait is asked of the leader.
+  pub waiting-asked : may_park call ≡ true
+      → KeepsAs script w (events.Run p) (record b { call = call_in b.call p InAsk })
+  waiting-asked parks =
+      out-keeps script w b holds_all p low high s InAsk 1 (frames.Ask (n.caller.ticket + 1) n.pid call) n.cache
+      (asks-leader script sound w b holds_all p low high can s other n.cache node-holds.owners (ap is_for_others home))
+      (rule-by true parks ∙ ask-rule begun refl refl refl)
 
   -- Where the cache names no owner, the leader is asked.
-  pub at-asked : owner_in n.cache name ≡ None
+  pub at-asked : may_park call ≡ false → owner_in n.cache name ≡ None
       → KeepsAs script w (events.Run p) (record b { call = call_in b.call p InAsk })
-  at-asked none =
+  at-asked quick none =
       out-keeps script w b holds_all p low high s InAsk 1 (frames.Ask (n.caller.ticket + 1) n.pid call) cache-now
       (asks-leader script sound w b holds_all p low high can s other cache-now owners-now (ap is_for_others home))
-      (rule-by ∙ ap (request script (step_to started) call) none ∙ ask-rule)
+      (rule-by false quick ∙ ap (request script (step_to started) call) none ∙ ask-rule started refl refl refl)
 
   -- And where it names one, that is asked.
-  pub owner-asked : (owner : ℕ) → owner_in n.cache name ≡ Some owner
+  pub owner-asked : may_park call ≡ false → (owner : ℕ) → owner_in n.cache name ≡ Some owner
       → KeepsAs script w (events.Run p) (record b { call = call_in b.call p (InRequest owner) })
-  owner-asked owner is =
+  owner-asked quick owner is =
       out-keeps script w b holds_all p low high s (InRequest owner) owner
       (frames.Request (n.caller.ticket + 1) n.pid call) cache-now
       (record {
@@ -114,22 +133,25 @@ module _ (script : Script) (sound : IsSoundScript script) (w : World) (b : Besid
         in_stream = λ t q. refl;
         not_held = λ m. refl;
         not_in_hand = refl;
+        not_waiting = λ name. refl;
+        not_made = refl;
         no_end = refl;
         no_lease_place = λ k. refl;
         about = eq-eqb p p refl;
         about_none = λ y d. ne_eqb p y (λ e. d (sym e));
+        no_cancel = λ y. refl;
         plain = refl;
         no_birth = refl;
         no_lease = λ k. refl;
         no_name = λ m. refl;
         may_be = its.0;
-        home = ap (λ h. may_be_in (InRequest owner) h call) home;
+        home = ap (λ h. may_be_in (InRequest owner) h call) home ∙ ap not quick;
         used_up = tt;
         between = its;
         to_be_made = λ x made. made;
         owners = owners-now;
       })
-      (rule-by ∙ ap (request script (step_to started) call) is
+      (rule-by false quick ∙ ap (request script (step_to started) call) is
       ∙ ap (λ t. if t then ask script (step_to started) call
       else Some (send (step_to started) owner (frames.Request (n.caller.ticket + 1) n.pid call)))
       (ne_eqb owner n.number (λ e. its.1 (e ∙ node-holds.number))))

@@ -21,9 +21,9 @@ use Rattle.kernel_model.specs.Valid.{IsValid}
 use Rattle.kernel_laws.proofs.ValidLaws.{reachable_kernels_are_valid_lemma}
 use Rattle.entry_laws.specs.Entering.{HasHistory, MayMake}
 use Rattle.entry_laws.proofs.Bodies.{living-body}
-use Rattle.entry_laws.proofs.History.{may-make-from}
+use Rattle.entry_laws.proofs.History.{history-reachable, may-make-from}
 use Rattle.entry_laws.proofs.Places.{IsDueNow, due-now, some-due}
-use Rattle.node_model.specs.Bodies.{Body, Living as LivingBody, body_in, row_of}
+use Rattle.node_model.specs.Bodies.{Body, Living as LivingBody, bare, row_of}
 use Rattle.node_model.specs.Caller.{Caller, caller_place, due_call, lines_in, lines_of, start_call}
 use Rattle.node_model.specs.Kinds.{get_named}
 use Rattle.world_model.specs.Node.{Node, Stage, Unborn, Living, Leaving, Left, Over, can_run, is_living, own_row}
@@ -72,7 +72,7 @@ few-tries script p sound = by-block (block_at script p) refl
         in omega (arith, all, within, some)
 
 -- where a call is due a further ticket is a number of four bytes
-next-ticket : (script : Script) (p : ℕ) (c : Caller) (call : Call) → IsSoundScript script
+pub next-ticket : (script : Script) (p : ℕ) (c : Caller) (call : Call) → IsSoundScript script
     → IsDue (caller_place script p c) call → HasTryLeft script p c → c.ticket ≤ tries_made script p c
     → is_u32 (c.ticket + 1) ≡ true
 next-ticket script p c call sound is_due left tickets =
@@ -166,18 +166,18 @@ module _ (script : Script) (sound : IsSoundScript script) (w : World) (b : Besid
   own-name : NameHolds script b.pids (is_born_in w) (Proc (b.pids p)) (name_sight script w [] b (Proc (b.pids p)))
   own-name = holds.names (Proc (b.pids p))
 
-  own-deed : IsHeldAt (b.deed (Proc (b.pids p))) (body_in b.kernel (Proc (b.pids p))) p (LivingBody holds-row.row)
+  own-deed : IsHeldAt (b.deed (Proc (b.pids p))) (b.body (Proc (b.pids p))) p (LivingBody holds-row.row)
   own-deed =
-      held-there (b.deed (Proc (b.pids p))) (body_in b.kernel (Proc (b.pids p))) p (LivingBody holds-row.row)
+      held-there (b.deed (Proc (b.pids p))) (b.body (Proc (b.pids p))) p (LivingBody holds-row.row)
       (sym (own-name.tables p) ∙ held-own)
 
-  history : HasHistory script w.journal b.kernel b.places
+  history : HasHistory script b.lines b.kernel b.places
   history = holds.history
 
   row-is : is-free.alive.row ≡ holds-row.row
   row-is =
       living-rows is-free.alive.row holds-row.row
-      (own-deed.body_is ∙ living-body b.kernel (b.pids p) is-free.alive is-free.lives)
+      (ap bare own-deed.body_is ∙ own-name.parts ∙ living-body b.kernel (b.pids p) is-free.alive is-free.lives)
 
   more-left : (caller_place script p n.caller).left ≡ [] → ⊥
   more-left = holds.pids.alive p is-free.alive (caller_place script p n.caller) is-free.lives is-free.there
@@ -197,7 +197,7 @@ module _ (script : Script) (sound : IsSoundScript script) (w : World) (b : Besid
       ∙ ap (λ (r : Row). due_call script n.number n.caller r.signals.doom) row-is ∙ some-due-call.1)
     where
       valid : IsValid b.kernel
-      valid = reachable_kernels_are_valid_lemma b.kernel (w.journal, holds.history.legal)
+      valid = reachable_kernels_are_valid_lemma b.kernel (history-reachable script b.lines b.kernel b.places history)
 
   -- All that a node's start of a call uses.
   pub starts : Starts script w b p
@@ -218,7 +218,7 @@ module _ (script : Script) (sound : IsSoundScript script) (w : World) (b : Besid
         call = call;
         is_due = some-due-call.1;
         due_now = is-due-now;
-        may = may-make-from script w.journal b.kernel b.places (b.pids p) call is-free.alive history is-free.lives
+        may = may-make-from script b.lines b.kernel b.places (b.pids p) call is-free.alive history is-free.lives
             is-due-now.may;
         ticket = next-ticket script p n.caller call sound is-due-now.due is-free.try_left is-free.tickets;
       }
@@ -234,4 +234,4 @@ module _ (script : Script) (sound : IsSoundScript script) (w : World) (b : Besid
       ∙ ap (option_and_then (start script n s.row)) s.is_due
       ∙ ap (λ t. if t then None
       else start_by script (step_to (record n { caller = start_call n.caller s.call })) s.call s.row
-      (home_of n.pid s.call)) s.due_now.not_waiting
+      (home_of n.pid s.call)) s.due_now.not_withdrawal
