@@ -1,7 +1,12 @@
+pub mod Owed
+pub mod Onwards
+pub mod Entered
 pub mod hand
+pub mod served
 pub mod keys
 pub mod first
 pub mod sent
 pub mod held
 pub mod release
 pub mod exits
+pub mod cancels

@@ -1,6 +1,8 @@
 -- The end of a process: its parcel goes on to the node where its parent's deed is, or its end is carried out there.
 pub mod Arrivals
+pub mod Parts
 pub mod Released
+pub mod Cancelled
 pub mod Parcels
 pub mod Hands
 pub mod Onward
@@ -9,12 +11,20 @@ pub mod DeedMoves
 pub mod SentAll
 pub mod EndLeaves
 pub mod Exits
+pub mod Parents
+pub mod Waited
+pub mod WholeEnds
+pub mod EndMarks
+pub mod ExitCancels
 pub mod ExitDeeds
 pub mod ExitMoves
+pub mod CarriedOut
 pub mod LeaderExits
+pub mod LeaderEnds
 pub mod EndKeeps
 pub mod SentParcels
 pub mod ExitTos
+pub mod ExitRules
 pub mod NoForker
 pub mod FirstEnds
 pub mod HandEnds

@@ -8,7 +8,6 @@ pub mod Routes
 pub mod Takings
 pub mod Asks
 pub mod Answering
-pub mod Nobody
 pub mod NobodyRoutes
 pub mod Served
 pub mod ServedRoutes

@@ -9,9 +9,9 @@ pub mod MadeHere
 pub mod MadeNames
 pub mod MadeNumbers
 pub mod OtherLeases
-pub mod MadeForOther
+pub mod MadeByKey
 pub mod KeyOutcomes
+pub mod KeyWhole
 pub mod KeyRoutes
 pub mod Removals
 pub mod RemovalRoutes
-pub mod OtherRoutes

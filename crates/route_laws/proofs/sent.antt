@@ -1,20 +1,16 @@
 -- A node takes a call that others sent it, and carries it out or sends it on.
+pub mod Uncancelled
 pub mod Brought
 pub mod Needed
 pub mod NoCheckpoint
 pub mod SameNodes
 pub mod InHand
-pub mod Replied
-pub mod InAnswers
-pub mod EndedHere
-pub mod Serves
 pub mod Suggested
-pub mod ServeSteps
 pub mod Sent
 pub mod Bounced
-pub mod Unserved
 pub mod Unleased
 pub mod Forwarded
+pub mod Behind
 pub mod Forwards
 pub mod Requests
 pub mod NotOwners

@@ -27,8 +27,9 @@ use Rattle.entry_laws.proofs.Kin.{kin-end, kin-ended}
 use Rattle.entry_laws.proofs.Listed.{ListsOne, listed-end, listed-same}
 use Rattle.entry_laws.proofs.Numbers.{process-there}
 use Rattle.entry_laws.proofs.Others.{others-lived, others-stay-dead, others-still-may}
-use Rattle.node_model.specs.Bodies.{Body, Living as LivingBody, Ended, Gone, AQueue, ASet, Removed, body_in, process_body, is_living_body, free_to_act}
+use Rattle.node_model.specs.Bodies.{Body, Living as LivingBody, Ended, Gone, AQueue, ASet, Removed, body_in, process_body, is_living_body}
 use Rattle.serve_laws.specs.Ends.{is_among}
+use Rattle.serve_laws.proofs.Committed.{free_alive}
 use Rattle.serve_laws.proofs.KernelEnds.{left_by, kept_by-dead}
 use Rattle.world_model.specs.Lives.{names_block}
 use Rattle.world_model.specs.Node.{Stage}
@@ -203,7 +204,7 @@ module _ (k next : Kernel) (places after : Places) (pid parent : ℕ) (row : Row
       → ListsOne next parent child → ListsOne k parent child
   parent-listed child (LivingBody r) is left lists_it =
       listed-end k next parent pid child r _ ending (l.its ∙ is) (l.listed r is) left
-      (family-ended_child (free_to_act r) pid ending) lists_it
+      (family-ended_child (free_alive r) pid ending) lists_it
   parent-listed child (Ended e) is left lists_it =
       listed-same k next parent child (Same (left ∙ sym (l.its ∙ is))) lists_it
   parent-listed child Gone is left lists_it =
@@ -394,12 +395,14 @@ module _ (k next : Kernel) (places after : Places) (pid parent : ℕ) (row : Row
                   in_streams = has.just_there.in_streams;
                   held_for_names = has.just_there.held_for_names;
                   in_hand = has.just_there.in_hand;
+                  waiting = has.just_there.waiting;
                 };
                 home = has.home;
                 used_up = has.used_up;
                 between = has.between;
                 so_far = subst (λ c. IsSoFar script p y call c) (sym at) (inr ended);
                 at_work = has.at_work;
+                started = has.started;
                 tickets = has.tickets;
                 try_left = has.try_left;
               });

@@ -12,7 +12,7 @@ use Rattle.rpc_frame.specs.declared.deed.Parcel.{Parcel}
 use Rattle.number_maps.specs.Maps.{Numbered, get}
 use Rattle.number_maps.proofs.LookUps.{get-first, get-later}
 use Rattle.kernel_model.specs.Row.{Alive, Row, ended_child}
-use Rattle.kernel_model.specs.Kernel.{Kernel, Process, living_at, alive_in}
+use Rattle.kernel_model.specs.Kernel.{Kernel, Process, living_at}
 use Rattle.kernel_model.specs.Kernel as kernel
 use Rattle.kernel_model.specs.Effect.{reply_alone}
 use Rattle.entry_laws.specs.Entering.{HasRow, IsChildIn}
@@ -33,15 +33,17 @@ use Rattle.world_laws.specs.Places.{DeedPlace, Unmade, InTable, InCheckpoint, Be
 use Rattle.world_laws.specs.Sights.{node_of, stage_of, is_born_in}
 use Rattle.world_laws.specs.Names.{NameHolds, name_sight, forker}
 use Rattle.world_laws.specs.Families.{NodeHolds, HoldsIn, HoldsRow, FamilyHolds, IsWhereFor, IsWithParent, RestsBelow, checkpoints_to}
-use Rattle.world_laws.specs.Invariant.{Holds, process_deed}
+use Rattle.world_laws.specs.Invariant.{process_deed, HoldsOwing}
 use Rattle.world_laws.specs.Deeds.{DeedsAreRead}
 use Rattle.world_laws.proofs.NameFacts.{IsHeldAt, held-there}
+use Rattle.world_laws.specs.Cancels.{Owing}
 use Rattle.rule_laws.proofs.ends.RecallAlls.{deeds_at}
 use Rattle.rule_laws.proofs.ends.Taken.{each_with}
 use Rattle.route_laws.proofs.exits.DeedMoves.{ComesAsBefore, deed_by, together-by, comes-by}
 use Rattle.route_laws.proofs.exits.Parcels.{HasParcel, IsOnItsWay, bodies, part, has-body, own-in-parcel, parcel-forked, in-parcel-made, is-used-there, low-node, not-first, living-own}
 use Rattle.route_laws.proofs.exits.EndLeaves.{EndLeaves, RestsAfter, end-dead}
 use Rattle.route_laws.proofs.exits.Exits.{end_row, parent_body, exit_is, next, deeds_then, places_then, exit-leaves, none-here, parent-here, parent-not-in, pid-is, parent-is, own-row, gets, child-in}
+use Rattle.route_laws.proofs.exits.Parts.{process-part}
 
 some-same : {A : Type 0} {u v : A} → Some u ≡ Some v → u ≡ v
 some-same e = cc
@@ -70,9 +72,10 @@ nothing-at : (m : Name) → get_named {V = Body} none_named m ≡ None
 nothing-at (Proc q) = refl
 nothing-at m = refl
 
-module _ (script : Script) (w : World) (hand : List Held) (b : Beside) (holds : Holds script w hand b)
+module _ (script : Script) (w : World) (hand : List Held) {owes : Owing} (b : Beside)
+    (holds : HoldsOwing script w hand owes b)
     (parcel : Parcel) (c : ℕ) (call : Call) (place : DeedPlace)
-    (parcel_is : HasParcel script w b parcel c call place) (reads : DeedsAreRead b.kernel) (x : ℕ)
+    (parcel_is : HasParcel script w b parcel c call place) (reads : DeedsAreRead b.kernel b.body) (x : ℕ)
     (parent_at : b.deed (Proc parcel.parent) ≡ InTable x) where
   abbrev k : Kernel
   k = b.kernel
@@ -297,9 +300,9 @@ module _ (script : Script) (w : World) (hand : List Held) (b : Beside) (holds : 
   held-body q v there =
       let known : NameHolds script b.pids (is_born_in w) (Proc q) (name_sight script w hand b (Proc q)) =
       holds.names (Proc q)
-      in let at : IsHeldAt (b.deed (Proc q)) (of q) x v =
-      held-there (b.deed (Proc q)) (of q) x v (sym (known.tables x) ∙ there)
-      in at.body_is
+      in let at : IsHeldAt (b.deed (Proc q)) (b.body (Proc q)) x v =
+      held-there (b.deed (Proc q)) (b.body (Proc q)) x v (sym (known.tables x) ∙ there)
+      in at.body_is ∙ process-part script w hand b q holds
 
   held-not-in : (q : ℕ) (v : Body) → get_named deeds (Proc q) ≡ Some v → has_deed_of (Proc q) parcel ≡ false
   held-not-in q v there = by-test (has_deed_of (Proc q) parcel) refl

@@ -1,5 +1,5 @@
 -- An event that carries out an exit at a node: all holds after it, where it holds for the names and the calls.
-use Rattle.std.proofs.Common.{◌≡◌, ◌≢◌, ℕ, ◌+◌, ◌≤◌, Bool, true, false, cond, List, [], ◌∷◌, length, sum_by, filter, refl, ap, sym, subst, ◌∙◌, inl, inr, arith}
+use Rattle.std.proofs.Common.{◌≡◌, ◌≢◌, ℕ, ◌+◌, ◌≤◌, Bool, true, false, cond, List, [], ◌∷◌, length, sum_by, filter, refl, ap, sym, subst, ◌∙◌, inl, inr, arith, ◌++◌}
 use Rattle.std.specs.List.{AllByRecursion}
 use Rattle.std.proofs.lemmas.Bool.{cases_eq, false≢true}
 use Rattle.std.proofs.lemmas.List.{length-append}
@@ -12,13 +12,13 @@ use Rattle.pico_base.specs.declared.script.Script.{Script}
 use Rattle.rpc_frame.specs.declared.deed.Parcel.{Parcel}
 use Rattle.rpc_frame.specs.declared.frame.Frame.{Frame}
 use Rattle.rpc_frame.specs.declared.frame.Frame.TheVariants as frames
-use Rattle.number_maps.specs.Maps.{get, is_used}
+use Rattle.number_maps.specs.Maps.{get, is_used, Numbered}
 use Rattle.kernel_model.specs.Fitting.{Places}
 use Rattle.kernel_model.specs.Kernel.{Kernel, Process, living_at}
-use Rattle.entry_laws.specs.Entering.{HasHistory, HasKeys}
+use Rattle.waiting_model.specs.Kernel as whole_kernels
+use Rattle.entry_laws.specs.Entering.{HasKeys}
 use Rattle.entry_laws.proofs.Keys.{keys-kept}
 use Rattle.key_table.specs.declared.Bound.{Bound}
-use Rattle.number_maps.specs.Maps.{Numbered}
 use Rattle.node_model.specs.declared.held.Held.{Held}
 use Rattle.node_model.specs.Kinds.{for_kind}
 use Rattle.node_model.specs.Caller.{Caller}
@@ -26,24 +26,26 @@ use Rattle.node_model.specs.Directory.{is_known}
 use Rattle.node_model.specs.Parcels.{ending_of}
 use Rattle.world_model.specs.Node.{Node}
 use Rattle.world_model.specs.World.{World, numbers, node_count, is_checkpoint}
-use Rattle.world_laws.specs.Places.{DeedPlace, InTable, CallPlace, Beside}
+use Rattle.world_laws.specs.Places.{DeedPlace, InTable, CallPlace, Beside, CancelPlace}
 use Rattle.world_laws.specs.Sights.{node_of, frames_to, directory_of, stage_of, is_born_in, is_born_stage}
 use Rattle.world_laws.specs.Names.{NameHolds, name_sight, forker}
 use Rattle.world_laws.specs.Callers.{CallHolds, call_sight}
 use Rattle.world_laws.specs.Ways.{way_sight, knows_parent, is_leaving_frame, is_recall_all, is_left_frame, IsParcelIn}
 use Rattle.world_laws.specs.Ranges.{FewRanges, KeysHold, has_lease, leases_on_way, one_for, lease_in}
 use Rattle.world_laws.specs.Families.{NodeHolds, FamilyHolds, IsWhereFor, checkpoints_to}
-use Rattle.world_laws.specs.Invariant.{Holds, IsLeading, process_deed}
+use Rattle.world_laws.specs.Invariant.{IsLeading, process_deed, HoldsOwing}
 use Rattle.world_laws.specs.Deeds.{DeedsAreRead}
 use Rattle.world_laws.proofs.Changes.{Changes, filter-is-list-map, made-same, still-born, read-same}
 use Rattle.world_laws.proofs.Frames.{all-weaker}
 use Rattle.world_laws.proofs.LeftAlone.{SameCaller, sender-stays, kind-left-alone, other-node-stays, frames-still-fit}
 use Rattle.world_laws.proofs.Stays.{IsMore, SameWay, node-born, way-stays, kind-stays}
+use Rattle.world_laws.specs.Cancels.{Owing, Wakes}
 use Rattle.rule_laws.proofs.own.Others.{call-goes-on}
+use Rattle.rule_laws.proofs.own.Bodies.{process_bodies}
 use Rattle.route_laws.proofs.exits.DeedMoves.{ComesAsBefore}
 use Rattle.route_laws.proofs.exits.Parcels.{HasParcel, parcel-forked, own-call, own-place}
 use Rattle.route_laws.proofs.exits.EndLeaves.{EndLeaves, end-others, pids-after-end, family-after-end, ended-call}
-use Rattle.route_laws.proofs.exits.Exits.{exit_is, next, places_then, exit_entry, exit-leaves, history-then, pid-is, end_row, parent_body}
+use Rattle.route_laws.proofs.exits.Exits.{exit_is, next, places_then, exit_entry, exit-leaves, history-then, pid-is, end_row, parent_body, exit_line}
 use Rattle.route_laws.proofs.exits.ExitDeeds.{deeds_after, rests-after}
 
 -- an ExitTo is no other frame that the invariant looks for
@@ -75,9 +77,10 @@ pub record IsExitMove (script : Script) (w w' : World) (hand hand' : List Held) 
   pub parcels_were : (q : Parcel) → IsParcelIn w' hand' q → IsParcelIn w hand q
   pub leases : (kind : Kind) (y : ℕ) → has_lease kind (call y) ≡ has_lease kind (b.call y)
 
-module _ (script : Script) (w : World) (hand : List Held) (b : Beside) (holds : Holds script w hand b)
+module _ (script : Script) (w : World) (hand : List Held) {owes : Owing} (b : Beside)
+    (holds : HoldsOwing script w hand owes b)
     (parcel : Parcel) (c : ℕ) (call : Call) (place : DeedPlace)
-    (parcel_is : HasParcel script w b parcel c call place) (reads : DeedsAreRead b.kernel) (x : ℕ)
+    (parcel_is : HasParcel script w b parcel c call place) (reads : DeedsAreRead b.kernel b.body) (x : ℕ)
     (parent_at : b.deed (Proc parcel.parent) ≡ InTable x) where
   abbrev k : Kernel
   k = b.kernel
@@ -144,7 +147,8 @@ module _ (script : Script) (w : World) (hand : List Held) (b : Beside) (holds : 
   module _ (moved : DeedPlace → DeedPlace) (stays_in : moved (InTable x) ≡ InTable x)
       (still : (d : DeedPlace) → ComesAsBefore d (moved d))
       (where_moved : (g : ℕ) (v : Process) (d : DeedPlace) → IsWhereFor g d v → IsWhereFor g (moved d) v)
-      (calls : ℕ → CallPlace) (w' : World) (hand' : List Held) (n : Node) (takes : List (ℕ × Frame))
+      (calls : ℕ → CallPlace) (cancels : ℕ → CancelPlace) (whole : whole_kernels.Kernel) (w' : World)
+      (hand' : List Held) (n : Node) (takes : List (ℕ × Frame))
       (changes : Changes script x w w' n takes []
       (exit_entry script w hand b holds parcel c call place parcel_is reads x parent_at ∷ []))
       (q : IsExitMove script w w' hand hand' b calls x n takes) where
@@ -155,12 +159,17 @@ module _ (script : Script) (w : World) (hand : List Held) (b : Beside) (holds : 
     abbrev pub exit_beside : Beside
     exit_beside =
         record {
+          lines = b.lines
+              ++ exit_line script w hand b holds parcel c call place parcel_is reads x parent_at ∷ [];
           kernel = after;
           places = places_now;
+          whole = whole;
           pids = b.pids;
           deed = deeds_after script w hand b holds parcel c call place parcel_is reads x parent_at moved stays_in still
               where_moved;
           call = calls;
+          body = process_bodies after b.body;
+          cancel = cancels;
         }
 
     same : SameCaller (node_of w x) n
@@ -241,17 +250,17 @@ module _ (script : Script) (w : World) (hand : List Held) (b : Beside) (holds : 
         (rests-after script w hand b holds parcel c call place parcel_is reads x parent_at moved stays_in still
         where_moved) (checkpoints_to script w y) (stage_of w y) y forked pids.apart (holds.families y forked)))
 
-    -- All holds after it.
+    -- All holds after it, but for the kernel in which callers wait, and for withdrawals.
     pub exit-keeps : ((name : Name)
         → NameHolds script b.pids (is_born_in w') name (name_sight script w' hand' exit_beside name))
         → ((y : ℕ) → 1 ≤ y → y ≤ node_count script
         → CallHolds script y (is_born_in w') (call_sight w' hand' exit_beside y))
-        → Holds script w' hand' exit_beside
+        → HoldsOwing script w' hand' Wakes exit_beside
     exit-keeps names calls_now =
         record {
           shape = changes.shape;
-          history = subst (λ j. HasHistory script j after places_now) (sym changes.journal)
-              (history-then script w hand b holds parcel c call place parcel_is reads x parent_at);
+          history = history-then script w hand b holds parcel c call place parcel_is reads x parent_at;
+          whole = tt;
           leading = q.leads;
           pids = pids-after-end k after b.places places_now parcel.pid parcel.parent _ _ _ leaves script b.pids
               holds.pids;
@@ -259,6 +268,7 @@ module _ (script : Script) (w : World) (hand : List Held) (b : Beside) (holds : 
           frames_fit = frames-still-fit script x w w' n takes [] entries changes exit-born holds.frames_fit tt tt;
           names = names;
           calls = calls_now;
+          cancels = λ y low high. tt;
           ways = λ y low high. way-stays script b.pids y (knows_parent script w b.pids y)
               (knows_parent script w' b.pids y) (way_sight w y) (way_sight w' y)
               (q.known_still (Proc (b.pids (forker script y)))) (way-same y) (holds.ways y low high);

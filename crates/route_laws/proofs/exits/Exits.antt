@@ -18,9 +18,10 @@ use Rattle.kernel_model.specs.Kernel.{Kernel, Process, living_at}
 use Rattle.kernel_model.specs.Kernel as kernel
 use Rattle.kernel_model.specs.Fitting.{Place, Places, IsDue, move_on, places_after}
 use Rattle.kernel_model.specs.Script.{is_fork}
+use Rattle.waiting_model.specs.Linear.{line_of}
 use Rattle.entry_laws.specs.Entering.{HasHistory, HasRow, IsChildIn, IsChildOf, MayMake}
 use Rattle.entry_laws.proofs.Bodies.{body-living}
-use Rattle.entry_laws.proofs.Ends.{MayEnd, EndsHere, ends-here, exit_changes, commits}
+use Rattle.entry_laws.proofs.Ends.{MayEnd, EndsHere, ends-here, exit_changes, commits, ends-wake, exit_comes_to}
 use Rattle.entry_laws.proofs.History.{history-goes-on, may-make-from, place-moves, places-stay}
 use Rattle.entry_laws.proofs.Others.{goes}
 use Rattle.entry_laws.proofs.Places.{end-is-last}
@@ -30,24 +31,28 @@ use Rattle.node_model.specs.Kinds.{get_named, put_all}
 use Rattle.node_model.specs.Caller.{Caller, caller_place}
 use Rattle.node_model.specs.Directory.{has_deed_of}
 use Rattle.node_model.specs.Bodies.{Body, Living as LivingBody, Deeds, body_in, process_body}
-use Rattle.node_model.specs.Parcels.{ending_of, fitting_bodies}
-use Rattle.node_model.specs.Entries.{entry_by}
-use Rattle.world_model.specs.Step.{Step, with_deeds, enter}
+use Rattle.node_model.specs.Parcels.{ending_of, fitting_bodies, Committed, commit_exit}
+use Rattle.node_model.specs.Entries.{entry_with, outcome_with}
+use Rattle.world_model.specs.Step.{Step}
 use Rattle.world_model.specs.Lives.{is_end}
-use Rattle.world_model.specs.Ends.{enter_exit, exit_with, exit_here}
+use Rattle.world_model.specs.Ends.{enter_exit, exit_with, exit_here, parked_parent}
 use Rattle.world_model.specs.World.{World}
+use Rattle.world_model.specs.Node.{Node}
 use Rattle.world_laws.specs.Places.{DeedPlace, InTable, Beside}
 use Rattle.world_laws.specs.Sights.{node_of, stage_of, is_born_in}
 use Rattle.world_laws.specs.Names.{NameHolds, name_sight, held_as, forker}
 use Rattle.world_laws.specs.Callers.{call_sight, IsToBeMade}
 use Rattle.world_laws.specs.Families.{FamilyHolds, IsWithParent, checkpoints_to}
-use Rattle.world_laws.specs.Invariant.{Holds, process_deed}
+use Rattle.world_laws.specs.Invariant.{process_deed, HoldsOwing}
 use Rattle.world_laws.specs.Deeds.{DeedsAreRead}
 use Rattle.world_laws.proofs.NameFacts.{held-here}
+use Rattle.world_laws.specs.Cancels.{Owing}
 use Rattle.rule_laws.proofs.ends.RecallAlls.{deeds_at}
 use Rattle.rule_laws.proofs.ends.Taken.{each_with, each-gets}
 use Rattle.route_laws.proofs.exits.Parcels.{HasParcel, IsOnItsWay, bodies, part, has-body, own-in-parcel, parcel-forked, not-first, OwnLives, own-lives, own-living, own-part, own-family, end-to-be-made, is-an-end, parcel-fits, parcel-reads}
 use Rattle.route_laws.proofs.exits.EndLeaves.{EndLeaves}
+use Rattle.route_laws.proofs.exits.Parts.{process-part}
+use Rattle.serve_laws.specs.Ends.{WakesOrNot}
 
 some-same : {A : Type 0} {u v : A} → Some u ≡ Some v → u ≡ v
 some-same e = cc
@@ -67,9 +72,10 @@ end-no-fork (calls.Exit status) h = refl
 end-no-fork (calls.Killed sig) h = refl
 end-no-fork call h = absurd (false≢true h)
 
-module _ (script : Script) (w : World) (hand : List Held) (b : Beside) (holds : Holds script w hand b)
+module _ (script : Script) (w : World) (hand : List Held) {owes : Owing} (b : Beside)
+    (holds : HoldsOwing script w hand owes b)
     (parcel : Parcel) (c : ℕ) (call : Call) (place : DeedPlace)
-    (parcel_is : HasParcel script w b parcel c call place) (reads : DeedsAreRead b.kernel) (x : ℕ)
+    (parcel_is : HasParcel script w b parcel c call place) (reads : DeedsAreRead b.kernel b.body) (x : ℕ)
     (parent_at : b.deed (Proc parcel.parent) ≡ InTable x) where
   abbrev k : Kernel
   k = b.kernel
@@ -110,13 +116,16 @@ module _ (script : Script) (w : World) (hand : List Held) (b : Beside) (holds : 
   pub none-here : (q : ℕ) → has_deed_of (Proc q) parcel ≡ true → get deeds.processes q ≡ None
   none-here q e =
       let n = known (Proc q)
-      in n.tables x ∙ ap (λ d. held_as d (of q) x) (parcel_is.deeds (Proc q) e) ∙ on_way.in_no_table (of q) x
+      in n.tables x ∙ ap (λ d. held_as d (b.body (Proc q)) x) (parcel_is.deeds (Proc q) e)
+      ∙ on_way.in_no_table (b.body (Proc q)) x
 
   -- but the parent's
   pub parent-here : get_named deeds (Proc parcel.parent) ≡ Some parent_body
   parent-here =
       let n = known (Proc parcel.parent)
-      in n.tables x ∙ ap (λ d. held_as d parent_body x) parent_at ∙ held-here x parent_body
+      in n.tables x ∙ ap (λ v. held_as (b.deed (Proc parcel.parent)) v x)
+      (process-part script w hand b parcel.parent holds)
+      ∙ ap (λ d. held_as d parent_body x) parent_at ∙ held-here x parent_body
 
   -- the parent isn't in the parcel
   pub parent-not-in : has_deed_of (Proc parcel.parent) parcel ≡ false
@@ -149,7 +158,7 @@ module _ (script : Script) (w : World) (hand : List Held) (b : Beside) (holds : 
   may-exit =
       subst (λ q. MayMake k q parcel.call) (sym pid-is)
       (subst (λ z. MayMake k (b.pids c) z) (sym call-is)
-      (may-make-from script w.journal k b.places (b.pids c) call made.alive holds.history made.lives made.may))
+      (may-make-from script b.lines k b.places (b.pids c) call made.alive holds.history made.lives made.may))
 
   -- it has this row
   pub own-row : body_in k (Proc parcel.pid) ≡ LivingBody end_row
@@ -190,7 +199,7 @@ module _ (script : Script) (w : World) (hand : List Held) (b : Beside) (holds : 
           ∙ parcel_is.deeds (Proc (b.pids c))
           (own-in-parcel script w hand b holds parcel c call place parcel_is))
 
-  child-of : IsChildOf k parcel.pid parcel.parent parent_body
+  pub child-of : IsChildOf k parcel.pid parcel.parent parent_body
   child-of =
       record {
         is = refl;
@@ -258,20 +267,34 @@ module _ (script : Script) (w : World) (hand : List Held) (b : Beside) (holds : 
   abbrev pub deeds_then : Deeds
   deeds_then = put_all deeds (exit_changes parcel (each_with of its) parent_body)
 
-  -- The exit is carried out by a node with these deeds.
-  pub exits : (step : Step) → step.node.deeds ≡ deeds
-      → exit_here step parcel
-      ≡ Some (enter (with_deeds step deeds_then) parcel.pid parcel.call replies.Ended)
+  -- the call in which the parent waits there, if it does
+  abbrev pub awaits : Option Call
+  awaits = parked_parent (node_of w x) parcel.parent
+
+  -- what the exit comes to
+  abbrev pub ends_as : Committed
+  ends_as = exit_comes_to parcel (each_with of its) awaits parent_body
+
+  -- The exit is carried out there.
+  pub exits : (step : Step) → step.node ≡ node_of w x
+      → exit_here script step parcel ≡ Some (enter_exit script step parcel ends_as)
   exits step same =
-      (λ i. exit_with step parcel
-      ((ap (λ ds. fitting_bodies ds parcel) same
+      (λ i. exit_with script step parcel
+      ((ap (λ (m : Node). fitting_bodies m.deeds parcel) same
       ∙ parcel-reads script w hand b holds parcel c call place parcel_is reads deeds none-here) i)
-      ((ap (λ ds. get_named ds (Proc parcel.parent)) same ∙ parent-here) i))
-      ∙ ap (option_map (enter_exit step parcel))
-      (commits k deeds parcel (each_with of its) end_row parent_body may-end)
-      ∙ ap (λ ds. Some (enter
-      (with_deeds step (put_all ds (exit_changes parcel (each_with of its) parent_body)))
-      parcel.pid parcel.call replies.Ended)) same
+      ((ap (λ (m : Node). get_named m.deeds (Proc parcel.parent)) same ∙ parent-here) i))
+      ∙ ap (option_map (enter_exit script step parcel))
+      (ap (λ (m : Node). commit_exit parcel (each_with of its) (parked_parent m parcel.parent) parent_body) same
+      ∙ commits k deeds parcel (each_with of its) end_row parent_body may-end awaits)
+
+  -- Where it wakes the parent, that is in line its wait at once; else it is as where that doesn't wait.
+  pub wakes-or-not : (waits : Call) → awaits ≡ Some waits
+      → WakesOrNot parcel waits deeds ends_as (exit_comes_to parcel (each_with of its) None parent_body) ends_as.wakes
+  wakes-or-not waits is =
+      subst (λ o. WakesOrNot parcel waits deeds (exit_comes_to parcel (each_with of its) o parent_body)
+      (exit_comes_to parcel (each_with of its) None parent_body)
+      (exit_comes_to parcel (each_with of its) o parent_body).wakes) (sym is)
+      (ends-wake k deeds parcel (each_with of its) end_row parent_body may-exit may-end waits)
 
   -- ---- the history
 
@@ -281,13 +304,17 @@ module _ (script : Script) (w : World) (hand : List Held) (b : Beside) (holds : 
   abbrev was : Place
   was = caller_place script c caller
 
-  -- the entry of the exit
+  -- its entry
   abbrev pub exit_entry : Entry
-  exit_entry = entry_by x parcel.pid parcel.call replies.Ended
+  exit_entry = entry_with x parcel.pid parcel.call (outcome_with (Some replies.Ended) ends_as.wakes)
+
+  -- the line of the exit
+  abbrev pub exit_line : Entry
+  exit_line = line_of x parcel.pid parcel.call replies.Ended
 
   -- and the places then
   abbrev pub places_then : Places
-  places_then = places_after script b.places exit_entry was
+  places_then = places_after script b.places exit_line was
 
   place-was : get b.places parcel.pid ≡ Some was
   place-was = ap (get b.places) pid-is ∙ made.there
@@ -295,10 +322,10 @@ module _ (script : Script) (w : World) (hand : List Held) (b : Beside) (holds : 
   an-end : is_end parcel.call ≡ true
   an-end = ap is_end call-is ∙ is-an-end script w hand b holds parcel c call place parcel_is
 
-  -- the history has the entry
-  pub history-then : HasHistory script (w.journal ++ exit_entry ∷ []) next places_then
+  -- the history has the line
+  pub history-then : HasHistory script (b.lines ++ exit_line ∷ []) next places_then
   history-then =
-      history-goes-on script w.journal k b.places x parcel.pid parcel.call replies.Ended was next holds.history
+      history-goes-on script b.lines k b.places x parcel.pid parcel.call replies.Ended was next holds.history
       place-was (subst (λ z. IsDue was z) (sym call-is) made.due) exit_is.enters.makes
 
   -- What the end leaves of the kernel and the places.

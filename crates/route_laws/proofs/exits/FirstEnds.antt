@@ -1,5 +1,5 @@
 -- Process 1 ends at node 1: it is gone with its ended children, and node 1 goes on as the leader.
-use Rattle.std.proofs.Common.{◌≡◌, ◌≢◌, ◌⊎◌, ℕ, ◌+◌, ◌≤◌, Bool, true, false, ◌||◌, if◌then◌else◌, List, [], ◌∷◌, ◌++◌, length, map, filter, nat_eq, Option, Some, None, is_some, Contains, refl, ap, sym, subst, ◌∙◌, inl, inr, arith}
+use Rattle.std.proofs.Common.{◌≡◌, ◌≢◌, ◌⊎◌, ℕ, ◌+◌, ◌≤◌, Bool, true, false, ◌||◌, if◌then◌else◌, List, [], ◌∷◌, ◌++◌, length, map, filter, nat_eq, Option, Some, None, is_none, is_some, Contains, refl, ap, sym, subst, ◌∙◌, inl, inr, arith}
 use Rattle.std.proofs.lemmas.Bool.{cases_eq, eq-eqb, ne_eqb, or_cases, false≢true}
 use Rattle.std.proofs.lemmas.List.{length-append}
 use Rattle.pico_base.specs.declared.call.Call.{Call}
@@ -21,6 +21,12 @@ use Rattle.kernel_model.specs.Kernel.{Kernel, Process, living_at}
 use Rattle.kernel_model.specs.Kernel as kernel
 use Rattle.kernel_model.specs.Row.{Alive, EndedChild, Row, ended_child, lists}
 use Rattle.kernel_model.specs.Script.{IsSoundScript}
+use Rattle.kernel_model.specs.History.{number_in}
+use Rattle.kernel_model.specs.Transition.{may_make}
+use Rattle.waiting_model.specs.Calls.{waits_at}
+use Rattle.waiting_model.specs.Kernel.{parent_in}
+use Rattle.waiting_model.specs.Transition.{successor}
+use Rattle.waiting_laws.proofs.Struck.{EndsWhole, end-leads, no-parent-of, outcome_of_end}
 use Rattle.entry_laws.specs.Entering.{HasHistory, is_used_name}
 use Rattle.entry_laws.proofs.Bodies.{living-body}
 use Rattle.entry_laws.proofs.Ends.{EndBodies, EndsFirst, among-kept, ends-first, first-held, first-kept, gone_with, is_gone_of}
@@ -29,8 +35,9 @@ use Rattle.entry_laws.proofs.Keys.{keys-kept}
 use Rattle.entry_laws.proofs.Numbers.{process-there}
 use Rattle.entry_laws.proofs.Others.{goes}
 use Rattle.entry_laws.proofs.Places.{end-is-last}
+use Rattle.node_model.specs.declared.held.Held.{Held}
 use Rattle.node_model.specs.declared.held.Held.TheVariants as items
-use Rattle.node_model.specs.Bodies.{Deeds, Living as LivingBody, Ended, Gone, body_in, process_body}
+use Rattle.node_model.specs.Bodies.{Deeds, Living as LivingBody, Ended, Gone, body_in, process_body, waiters_of}
 use Rattle.node_model.specs.Caller.{Caller, answer_call, caller_place, start_call}
 use Rattle.node_model.specs.Directory.{Directory, held_for, is_known}
 use Rattle.node_model.specs.Kinds.{for_kind, get_named, is_object, kind_of, number_of, put_all}
@@ -46,24 +53,34 @@ use Rattle.world_laws.specs.Places.{Beside, InCheckpoint, InTable, Ends}
 use Rattle.world_laws.specs.Sights.{node_of, directory_of, is_born_in, stage_of}
 use Rattle.world_laws.specs.Plays.{begin}
 use Rattle.world_laws.specs.Names.{NameHolds, forker, name_sight}
-use Rattle.world_laws.specs.Callers.{CallHolds, CallSight, FreeIn, HasCallOrNone, HasEnded, call_sight, is_about, is_end_place, is_end_stage, is_item_about, may_be_in}
+use Rattle.world_laws.specs.Callers.{CallHolds, CallSight, FreeIn, HasCallOrNone, HasEnded, call_sight, is_about, is_end_place, is_end_stage, is_item_about, is_waiter_of, may_be_in}
+use Rattle.world_laws.specs.Cancels.{CancelHolds, Nothing, cancel_sight, is_held_cancel_of}
 use Rattle.world_laws.specs.Families.{FamilyHolds, IsAwaited, IsWithParent, NodeHolds, RestsBelow, checkpoints_to}
 use Rattle.world_laws.specs.Invariant.{Holds, IsLeading, process_deed}
 use Rattle.world_laws.specs.Ranges.{FewRanges, KeysHold, kind_sight, leases_on_way}
 use Rattle.world_laws.specs.Ways.{knows_parent, way_sight}
+use Rattle.world_laws.specs.Wholes.{HasMarks, HasWhole, under_way_at}
+use Rattle.world_laws.proofs.Cancels.{SameCancel, cancel-left-alone, is_item_of}
 use Rattle.world_laws.proofs.Changes.{Changes, filter-is-list-map, made-same, read-same, still-born}
 use Rattle.world_laws.proofs.LeftAlone.{LeavesCall, call-left-alone, frames-still-fit, kind-left-alone, name-left-alone, other-node-stays, parcel-was-there, same-directory, sender-stays, way-left-alone}
 use Rattle.world_laws.proofs.Lines.{IsAnswered, answered, due-at-line}
 use Rattle.world_laws.proofs.Numbers.{zero-is-unused}
+use Rattle.world_laws.proofs.Replied.{cancel-over}
 use Rattle.world_laws.proofs.Stays.{IsMore, call-stays, kind-stays, name-stays, node-born, way-stays}
 use Rattle.world_laws.proofs.Steps.{KeepsAs, changes-by-run, run-steps}
+use Rattle.rule_laws.proofs.Withdrawals.{old-still}
+use Rattle.rule_laws.proofs.own.Alone.{process-is-body, process-unchanged, process-waiters}
+use Rattle.rule_laws.proofs.own.Bodies.{process_bodies}
+use Rattle.rule_laws.proofs.own.InWhole.{EntersAlone, LivesPlain, has-whole-then, lives-plain, other-withdrawal}
 use Rattle.rule_laws.proofs.own.Others.{call-goes-on}
 use Rattle.rule_laws.proofs.own.Rebodied.{name-rebodied, name-seen-rebodied}
 use Rattle.rule_laws.proofs.own.Runs.{Starts, run-is}
+use Rattle.rule_laws.proofs.own.Starting.{its-process, starts-may, starts-uncancelled}
 use Rattle.rule_laws.proofs.ends.RecallAlls.{end-is-allowed, ends-by-end}
 use Rattle.route_laws.proofs.exits.EndLeaves.{EndLeaves, RestsAfter, end-dead, end-others, family-after-end, pids-after-end}
 use Rattle.route_laws.proofs.exits.Exits.{ends-last, end-no-fork}
 use Rattle.route_laws.proofs.exits.NoForker.{first-has-no-forker}
+use Rattle.route_laws.proofs.exits.WholeEnds.{ending-known}
 
 -- ---- who is gone with the first process
 
@@ -142,7 +159,7 @@ module _ (script : Script) (sound : IsSoundScript script) (w : World) (b : Besid
   abbrev place : Place
   place = caller_place script 1 n.caller
 
-  low : 1 ≤ 1
+  pub low : 1 ≤ 1
   low = omega arith
 
   node-holds : NodeHolds script b.pids (is_born_in w) 1 n
@@ -152,7 +169,7 @@ module _ (script : Script) (sound : IsSoundScript script) (w : World) (b : Besid
   pid-is = s.birth.pid_is
 
   -- the call is `exit` or `killed`
-  an-end : is_end call ≡ true
+  pub an-end : is_end call ≡ true
   an-end = ends-by-end n.pid call (ap (λ z. may_be_in Ends z call) home)
 
   -- its process has this row
@@ -313,7 +330,7 @@ module _ (script : Script) (sound : IsSoundScript script) (w : World) (b : Besid
   now = record n { caller = answer_call script 1 started call replies.Ended; stage = Over; deeds = deeds_now }
 
   abbrev ended : Step
-  ended = record { node = now; entries = entry ∷ []; sends = [] }
+  ended = record { node = now; entries = entry ∷ []; sends = []; strikes = false }
 
   -- the step, by the numbers that the node has
   abbrev step_with : ℕ → ℕ → Step
@@ -327,6 +344,7 @@ module _ (script : Script) (sound : IsSoundScript script) (w : World) (b : Besid
             };
         entries = entry_by number process call replies.Ended ∷ [];
         sends = [];
+        strikes = false;
       }
 
   -- in the middle of it the reply is to come
@@ -336,6 +354,7 @@ module _ (script : Script) (sound : IsSoundScript script) (w : World) (b : Besid
         node = record n { caller = started; stage = Over; deeds = put_all n.deeds (end_first n.pid row) };
         entries = entry_by n.number n.pid call replies.Ended ∷ [];
         sends = [];
+        strikes = false;
       }
 
   rule : run script n ≡ Some ended
@@ -358,13 +377,23 @@ module _ (script : Script) (sound : IsSoundScript script) (w : World) (b : Besid
   abbrev w2 : World
   w2 = world_after w 1 ended
 
-  -- beside the world the kernel and the places are the next ones
+  -- the end in the kernel in which callers wait
+  abbrev pub first_whole : EndsWhole b.whole (b.pids 1) s.call (ending_of s.call)
+  first_whole =
+      let process = its-process script w b holds 1 low high s
+      in end-leads b.whole pid process.alive call (ending_of call) process.lives
+      (starts-may script w b holds 1 low high s) (ending-known call an-end)
+
+  -- beside the world the kernels and the places are the next ones
   abbrev pub first_over : Beside
   first_over =
       record b {
+        lines = b.lines ++ entry_by 1 (b.pids 1) s.call replies.Ended ∷ [];
         kernel = e.next;
         places = places_after script b.places (entry_by 1 (b.pids 1) s.call replies.Ended)
             (caller_place script 1 (node_of w 1).caller);
+        whole = first_whole.next;
+        body = process_bodies e.next b.body;
       }
 
   changes : Changes script 1 w w2 now [] [] (entry ∷ [])
@@ -486,6 +515,10 @@ module _ (script : Script) (sound : IsSoundScript script) (w : World) (b : Besid
 
   -- ---- the calls
 
+  -- the same callers wait
+  waiters-same : (name : Name) → waiters_of (first_over.body name) ≡ waiters_of (b.body name)
+  waiters-same = process-waiters script w [] Nothing b holds after bodies.objects
+
   abbrev x : CallSight
   x = call_sight w [] b 1
 
@@ -520,6 +553,7 @@ module _ (script : Script) (sound : IsSoundScript script) (w : World) (b : Besid
                 held_for_names = λ name. ap (λ (d : Directory). filter (is_item_about 1) (held_for d name)) same-there
                     ∙ s.nowhere.held_for_names name;
                 in_hand = refl;
+                waiting = λ name. ap (filter (is_waiter_of 1)) (waiters-same name) ∙ s.nowhere.waiting name;
               };
               idle = s.idle;
               free = subst (λ (stage : Stage). FreeIn script 1 x2 stage)
@@ -544,6 +578,7 @@ module _ (script : Script) (sound : IsSoundScript script) (w : World) (b : Besid
         call_is = refl;
         held_is = λ name. ap (λ (z : Directory). filter (is_item_about y) (held_for z name)) same-there;
         hand_is = refl;
+        waiters_are = λ name. ap (filter (is_waiter_of y)) (waiters-same name);
       }
 
   calls-now : (y : ℕ) → 1 ≤ y → y ≤ node_count script
@@ -563,6 +598,11 @@ module _ (script : Script) (sound : IsSoundScript script) (w : World) (b : Besid
 
   -- ---- the names
 
+  body-gone : (name : Name) → gone name ≡ true → first_over.body name ≡ Gone
+  body-gone (Proc q) h = e.gone (Proc q) h
+  body-gone (Msg id) h = absurd (false≢true h)
+  body-gone (Sem id) h = absurd (false≢true h)
+
   begins-same : (holds_it comes : Bool) → begin Over holds_it comes ≡ begin (stage_of w 1) holds_it comes
   begins-same holds_it comes = ap (λ (stage : Stage). begin stage holds_it comes) (sym s.stage)
 
@@ -577,13 +617,14 @@ module _ (script : Script) (sound : IsSoundScript script) (w : World) (b : Besid
       (record {
         directory = same-directory (directory_of w) (directory_of w2) same-there name;
         used_is = used-same name;
-        body_is = e.rest name h;
+        part_is = e.rest name h;
+        body_is = process-unchanged script w [] Nothing b holds after bodies.objects name (e.rest name h);
         deed_is = refl;
         held_is = first-kept pid row n.deeds name h;
         begins_is = begins-same;
         hand_is = refl;
-        steps_are = λ y. refl;
-        ranges_are = λ y. refl;
+        steps_are = λ u y. refl;
+        ranges_are = λ u y. refl;
       }) tt tt) (holds.names name)
 
   name-gone : (name : Name) → gone name ≡ true
@@ -597,13 +638,14 @@ module _ (script : Script) (sound : IsSoundScript script) (w : World) (b : Besid
         used_is = used-same name;
         deed_was = gone-here name h;
         deed_is = refl;
-        held_is = first-held pid row n.deeds name h ∙ ap Some (sym (e.gone name h));
+        held_is = first-held pid row n.deeds name h ∙ ap Some (sym (body-gone name h));
         begins_is = begins-same;
         hand_is = refl;
-        steps_are = λ y. refl;
-        ranges_are = λ y. refl;
+        steps_are = λ u y. refl;
+        ranges_are = λ u y. refl;
       }) tt tt)
       (name-rebodied script b.pids (is_born_in w) name (name_sight script w [] b name) 1 (body_in after name)
+      (first_over.body name) (process-is-body script w [] Nothing b holds after bodies.objects name)
       (gone-here name h) known)
 
   names-now : (name : Name) → NameHolds script b.pids (is_born_in w2) name (name_sight script w2 [] first_over name)
@@ -636,6 +678,107 @@ module _ (script : Script) (sound : IsSoundScript script) (w : World) (b : Besid
       ap length (ranges-same kind)
       in omega (arith, old, longer, many)
 
+  -- ---- the kernel in which callers wait
+
+  history-now : HasHistory script first_over.lines after places_now
+  history-now =
+      history-goes-on script b.lines k b.places 1 pid call replies.Ended place after holds.history s.free.there
+      s.due_now.due e.enters.makes
+
+  whole-was : HasWhole w b
+  whole-was = holds.whole
+
+  -- there, too, no process is its parent
+  no-parent : parent_in pid b.whole.processes ≡ None
+  no-parent =
+      no-parent-of b.whole pid whole-was.sound
+      (λ p a lives listed.
+      let now : LivesPlain k p a = lives-plain b.whole k p a whole-was.alike lives
+      in unlisted p now.alive now.lives (ap (λ (r : Row). lists r.family pid) now.row ∙ listed))
+
+  none-now : under_way_at w2 1 ≡ None
+  none-now = ap (λ (m : Node). m.caller.under_way) changes.here ∙ is-answered.free
+
+  same-alive : (a c : Alive) → Some a ≡ Some c → a ≡ c
+  same-alive a c h = cc
+
+  first-enters : EntersAlone w w2 b first_over 1 1 call (Some replies.Ended)
+  first-enters =
+      record {
+        step = first_whole.step (number_in (Some replies.Ended))
+            ∙ ap (λ o. Some (successor first_whole.next (outcome_of_end pid (ending_of call) o))) no-parent;
+        keeps = first_whole.keeps;
+        ends_no_wait = s.due_now.not_withdrawal;
+        may = λ a lives. subst (λ (z : Alive). may_make z call ≡ true) (same-alive s.alive a (sym s.lives ∙ lives))
+            s.due_now.may;
+        journal = changes.journal;
+        lines = refl;
+        led = holds.history.legal;
+        leads = history-now.legal;
+        parts = λ name. (process-is-body script w [] Nothing b holds after bodies.objects name).parts;
+        waiters = waiters-same;
+        own_pid = refl;
+        own_marks = λ a marks. subst (λ o. HasMarks (b.call 1) o a) (sym none-now) marks;
+        others = λ y d. inl (refl, other-process y d);
+        calls = λ y d same. (refl, ap (λ (m : Node). m.caller.under_way) (changes.others y d));
+        dead = λ y d same dead. (end-others k after b.places places_now pid 0 row Gone (ending_of call) leaves
+            (b.pids y) (other-process y d)).dead dead;
+      }
+
+  -- ---- withdrawals
+
+  held-same : (test : Held → Bool) (name : Name)
+      → filter test (held_for (directory_of w2) name) ≡ filter test (held_for (directory_of w) name)
+  held-same test name = ap (λ (z : Directory). filter test (held_for z name)) same-there
+
+  seen-same : (y : ℕ) → y ≢ 1 → SameCancel (cancel_sight w [] b y) (cancel_sight w2 [] first_over y)
+  seen-same y d =
+      cancel-left-alone script 1 w w2 now [] [] (entry ∷ []) changes [] [] b first_over y
+      (record {
+        own = λ z. absurd (d z);
+        call_is = refl;
+        cancel_is = refl;
+        held_is = held-same (is_item_of y);
+        hand_is = refl;
+        nowhere = λ one known may l. record {
+          node = l.node;
+          is = l.is;
+          leaves = ap (λ (z : Directory). is_none (get z.partings l.node)) same-there ∙ l.leaves;
+          unknown = ap (λ z. is_known z (waits_at (node_of w y).pid one)) same-there ∙ l.unknown;
+        };
+      }) tt tt tt tt
+
+  -- who lives on has the same row
+  body-stays : (y : ℕ) (c : Alive) → living_at after (b.pids y) ≡ Some c
+      → body_in after (Proc (b.pids y)) ≡ body_in k (Proc (b.pids y))
+  body-stays y c lives = by-test (gone (Proc (b.pids y))) refl
+    where
+      by-test : (t : Bool) → gone (Proc (b.pids y)) ≡ t
+          → body_in after (Proc (b.pids y)) ≡ body_in k (Proc (b.pids y))
+      by-test false h = e.rest (Proc (b.pids y)) h
+      by-test true h =
+          absurd (gone-not-row c.row (sym (e.gone (Proc (b.pids y)) h) ∙ living-body after (b.pids y) c lives))
+
+  own-cancel : CancelHolds 1 Nothing (cancel_sight w2 [] first_over 1)
+  own-cancel =
+      let ticket : (node_of w2 1).caller.ticket ≡ n.caller.ticket + 1 =
+      ap (λ (m : Node). m.caller.ticket) changes.here ∙ is-answered.ticket_is
+      in cancel-over 1 Nothing Nothing (cancel_sight w [] b 1) (cancel_sight w2 [] first_over 1)
+      (old-still script 1 w w2 now [] [] (entry ∷ []) changes [] [] b first_over 1
+      (sym (ap (λ (m : Node). m.pid) changes.here)) (omega (arith, ticket)) (held-same (is_held_cancel_of 1)) refl tt
+      tt)
+      (starts-uncancelled script w b holds 1 low high s) (inl none-now) (λ owed. absurd (false≢true owed))
+      (holds.cancels 1 low high)
+
+  cancels-now : (y : ℕ) → 1 ≤ y → y ≤ node_count script → CancelHolds y Nothing (cancel_sight w2 [] first_over y)
+  cancels-now y low_y high_y =
+      elim (cases_eq y 1) [
+        | inl z ↦ subst (λ p. CancelHolds p Nothing (cancel_sight w2 [] first_over p)) (sym z) own-cancel
+        | inr d ↦
+            other-withdrawal w w2 b first_over 1 1 call (Some replies.Ended) whole-was first-enters y d refl
+            (other-process y d) (body-stays y) [] [] Nothing (seen-same y d) (holds.cancels y low_y high_y)
+      ]
+
   living-not-left : stage_of w 1 ≡ Left → ⊥
   living-not-left left = differ (sym s.stage ∙ left)
     where
@@ -653,9 +796,8 @@ module _ (script : Script) (sound : IsSoundScript script) (w : World) (b : Besid
         is_step = run-steps script w 1 ended holds.shape low high rule;
         holds = record {
           shape = changes.shape;
-          history = subst (λ j. HasHistory script j after places_now) (sym changes.journal)
-              (history-goes-on script w.journal k b.places 1 pid call replies.Ended place after holds.history
-              s.free.there s.due_now.due e.enters.makes);
+          history = history-now;
+          whole = has-whole-then w w2 b first_over 1 1 call (Some replies.Ended) whole-was first-enters;
           leading = subst (λ (z : Directory). IsLeading z) (sym same-there) holds.leading;
           pids = pids-after-end k after b.places places_now pid 0 row Gone (ending_of call) leaves script b.pids
               holds.pids;
@@ -663,6 +805,7 @@ module _ (script : Script) (sound : IsSoundScript script) (w : World) (b : Besid
           frames_fit = frames-still-fit script 1 w w2 now [] [] (entry ∷ []) changes more holds.frames_fit tt tt;
           names = names-now;
           calls = calls-now;
+          cancels = cancels-now;
           ways = λ y low_y high_y. way-stays script b.pids y (knows_parent script w b.pids y)
               (knows_parent script w2 b.pids y) (way_sight w y) (way_sight w2 y)
               (λ h. ap (λ z. is_known z (Proc (b.pids (forker script y)))) same-there ∙ h)

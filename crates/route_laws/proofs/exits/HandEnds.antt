@@ -19,29 +19,30 @@ use Rattle.world_laws.specs.Names.{forker}
 use Rattle.world_laws.specs.Ways.{Way, way_sight, knows_parent, IsParcelOf, here, tells, collected, over, gone, under_way_of, HasSender}
 use Rattle.world_laws.specs.Deeds.{DeedsAreRead}
 use Rattle.world_laws.specs.Families.{PidsHold}
-use Rattle.world_laws.specs.Invariant.{Holds}
 use Rattle.world_laws.proofs.Changes.{Changes}
 use Rattle.world_laws.proofs.Middles.{changes-further}
-use Rattle.route_laws.proofs.hand.Noted.{HoldsAfter}
-use Rattle.route_laws.proofs.exits.Released.{call_released}
+use Rattle.rule_laws.proofs.own.Moved.{is_still}
 use Rattle.rule_laws.proofs.ends.Directories.{KnowsNodes}
 use Rattle.rule_laws.proofs.ends.KeptItems.{parcel-held}
-use Rattle.route_laws.proofs.exits.EndKeeps.{EndKeeps, leader-here, leader-directory, end-sent-on, end-carried-out}
+use Rattle.route_laws.proofs.exits.EndKeeps.{EndKeeps, leader-here, leader-directory, end-sent-on, end-carried-out, AreReleased}
+use Rattle.route_laws.proofs.hand.Noted.{HoldsAfter}
+use Rattle.route_laws.proofs.exits.Released.{call_released}
 use Rattle.route_laws.proofs.exits.Parcels.{HasParcel, hand-sender, parcel-in-hand, low-node, high-node, not-first}
+use Rattle.route_laws.proofs.Owed.{HoldsAt}
 
 -- The parcel comes to an end that keeps all: it is held, with each call where it was; or it is gone, and what was held
 -- for its names is in hand.
 pub data HasEnd (script : Script) (v : World) (s : Step) (parcel : Parcel) (rest : List Held) (b : Beside) : Type 0
   where
-    keeps_it : (next : Step) → end_process s parcel ≡ Some (IsHeld next)
+    keeps_it : (next : Step) → end_process script s parcel ≡ Some (IsHeld next)
         → HoldsAfter script v next rest b.call → HasEnd script v s parcel rest b
-    frees : (next : Step) (items : List Held) → end_process s parcel ≡ Some (Releases next items)
+    frees : (next : Step) (items : List Held) → end_process script s parcel ≡ Some (Releases next items)
         → HoldsAfter script v next (items ++ rest) (λ p. call_released (names_in parcel) (b.call p))
         → HasEnd script v s parcel rest b
 
 module _ (script : Script) (v : World) (s : Step) (parcel : Parcel) (rest : List Held) (b : Beside)
-    (holds : Holds script (world_after v 1 s) (Ending parcel ∷ rest) b)
-    (reads : DeedsAreRead b.kernel) (at_nodes : KnowsNodes (directory_of (world_after v 1 s))) where
+    (holds : HoldsAt script v 1 s (Ending parcel ∷ rest) b) (reads : DeedsAreRead b.kernel b.body)
+    (at_nodes : KnowsNodes (directory_of (world_after v 1 s))) where
   abbrev w : World
   w = world_after v 1 s
 
@@ -115,27 +116,26 @@ module _ (script : Script) (v : World) (s : Step) (parcel : Parcel) (rest : List
       → HasEnd script v s parcel rest b
   held-for to kept place =
       keeps_it held_on
-      (ap (λ z. end_by s parcel (place_of z (Proc parcel.parent)))
+      (ap (λ z. end_by script s parcel (place_of z (Proc parcel.parent)))
       (leader-directory script v s parcel rest b holds some_node)
-      ∙ ap (end_by s parcel) place)
+      ∙ ap (end_by script s parcel) place)
       (record {
         beside = _;
         holds = parcel-held script w rest parcel b holds to kept place (world_after v 1 held_on) held-changes;
-        calls = refl;
+        calls = λ p. is_still refl;
       })
 
-  released : (b2 : Beside) → b2.call ≡ (λ p. call_released (names_in parcel) (b.call p))
-      → EndKeeps script v s parcel rest b2 → HasEnd script v s parcel rest b
-  released b2 same e = frees e.next e.items e.is_end (record { beside = b2; holds = e.holds; calls = same })
+  released : EndKeeps script v s parcel rest (AreReleased b.call (names_in parcel)) → HasEnd script v s parcel rest b
+  released e = frees e.next e.items e.is_end (record { beside = e.beside; holds = e.holds; calls = e.calls })
 
   at-node : (x : ℕ) → place_of d (Proc parcel.parent) ≡ Some (At x) → HasEnd script v s parcel rest b
   at-node x place =
       elim (cases_eq x 1) [
         | inl e ↦
-            released _ refl
+            released
             (end-carried-out script v s parcel rest b holds some_node reads (place ∙ ap (λ y. Some (At y)) e))
         | inr away ↦
-            released _ refl
+            released
             (end-sent-on script v s parcel rest b holds some_node x place (at_nodes (Proc parcel.parent) x place) away)
       ]
 

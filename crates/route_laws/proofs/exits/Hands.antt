@@ -17,9 +17,9 @@ use Rattle.world_model.specs.World.{World}
 use Rattle.world_laws.specs.Places.{Beside}
 use Rattle.world_laws.specs.Sights.{directory_of, is_born_in}
 use Rattle.world_laws.specs.Names.{NameSight, name_sight, NameHolds, OneIf, IsItemFor, IsItemWith, is_kept_for, node_in, forker}
-use Rattle.world_laws.specs.Callers.{is_item_about}
 use Rattle.world_laws.specs.Ways.{IsParcelIn, kept as kept_in, at_hand}
-use Rattle.world_laws.specs.Invariant.{Holds}
+use Rattle.world_laws.specs.Invariant.{HoldsOwing}
+use Rattle.world_laws.specs.Cancels.{Owing}
 use Rattle.route_laws.proofs.exits.Arrivals.{is_one_of, has-is-one, Arrives, AreApart, held-kept, kept-of-all, held-for-one, none-of-all, each-of-all, names-apart}
 use Rattle.route_laws.proofs.exits.Released.{IsSeenHeld}
 use Rattle.route_laws.proofs.exits.Parcels.{hand-sender, parcel-in-hand, others-lack}
@@ -32,8 +32,8 @@ no-ending-for name other object [] all = refl
 no-ending-for name other object (Request asked ∷ items) all = no-ending-for name other object items all.1
 no-ending-for name other object (Ending parcel ∷ items) all = absurd (false≢true (sym (ap is_object all.0) ∙ object))
 
-module _ (script : Script) (w : World) (items : List Held) (parcel : Parcel) (b : Beside)
-    (holds : Holds script w (Ending parcel ∷ items) b) where
+module _ (script : Script) (w : World) (items : List Held) (parcel : Parcel) {owes : Owing} (b : Beside)
+    (holds : HoldsOwing script w (Ending parcel ∷ items) owes b) where
   -- what is in hand
   abbrev pub hand : List Held
   hand = Ending parcel ∷ items
@@ -148,13 +148,14 @@ module _ (script : Script) (w : World) (items : List Held) (parcel : Parcel) (b 
 
   -- ---- calls and parcels
 
-  -- what is in hand of a call
-  pub call-in-hand : (p : ℕ)
-      → filter (is_item_about p) hand_then
-      ≡ flat_map (λ m. filter (is_item_about p) (held_for d m)) names ++ filter (is_item_about p) hand
-  call-in-hand p =
-      filter-append (is_item_about p) (held_for_all d names) items
-      ∙ ap (λ xs. xs ++ filter (is_item_about p) items) (kept-of-all (is_item_about p) d names)
+  -- what is in hand of a call, or of its withdrawal
+  pub kept-in-hand : (test : Held → Bool) → test (Ending parcel) ≡ false
+      → filter test hand_then ≡ flat_map (λ m. filter test (held_for d m)) names ++ filter test hand
+  kept-in-hand test none =
+      filter-append test (held_for_all d names) items
+      ∙ ap (λ xs. xs ++ filter test items) (kept-of-all test d names)
+      ∙ ap (λ xs. flat_map (λ m. filter test (held_for d m)) names ++ xs)
+      (sym (ap (λ t. cond t (Ending parcel ∷ filter test items) (filter test items)) none))
 
   ending-for : (m : Name) (q : Parcel) → IsItemFor m (Ending q) → m ≡ Proc q.parent
   ending-for m q h = h

@@ -10,6 +10,7 @@ use Rattle.rpc_frame.specs.declared.deed.Parcel.{Parcel}
 use Rattle.rpc_frame.specs.declared.frame.Frame.TheVariants as frames
 use Rattle.number_maps.specs.Maps.{get, is_used}
 use Rattle.kernel_model.specs.Kernel.{Kernel, Process}
+use Rattle.waiting_model.specs.Kernel as whole_kernels
 use Rattle.node_model.specs.declared.held.Held.{Held}
 use Rattle.node_model.specs.declared.held.Held.TheVariants.{Ending}
 use Rattle.node_model.specs.Kinds.{kind_of, number_of, is_object, get_named, for_kind}
@@ -19,41 +20,45 @@ use Rattle.world_model.specs.Node.{Node}
 use Rattle.world_model.specs.Step.{with_directory}
 use Rattle.world_model.specs.Census.{brings}
 use Rattle.world_model.specs.World.{World, node_count}
-use Rattle.world_laws.specs.Places.{DeedPlace, Unmade, InTable, InHand, CallPlace, Beside}
+use Rattle.world_laws.specs.Places.{DeedPlace, Unmade, InTable, InHand, CallPlace, Beside, CancelPlace}
 use Rattle.world_laws.specs.Sights.{node_of, frames_to, directory_of, stage_of, is_born_in}
 use Rattle.world_laws.specs.Plays.{Hold, plays, begin, is_there, is_checkpoint_of, has_any, believed, placed_in, news}
 use Rattle.world_laws.specs.Names.{NameSight, name_sight, NameHolds, PlaysTo, held_as, held_at, comes_to, range_steps_of, forker, is_maker, maker_tells}
-use Rattle.world_laws.specs.Callers.{CallHolds, call_sight, is_about, is_item_about}
+use Rattle.world_laws.specs.Callers.{CallHolds, call_sight, is_about, is_item_about, is_waiter_of}
 use Rattle.world_laws.specs.Ways.{IsParcelIn, left as left_in, sent as sent_in, kept as kept_in, at_hand, under_way_of, HasSender}
 use Rattle.world_laws.specs.Families.{NodeHolds, IsWhereFor}
-use Rattle.world_laws.specs.Invariant.{Holds, IsLeading}
+use Rattle.world_laws.specs.Invariant.{IsLeading, HoldsOwing}
 use Rattle.world_laws.specs.Deeds.{DeedsAreRead}
 use Rattle.world_laws.proofs.Changes.{Changes, filter-is-list-map, flat_map-is-list-map, made-same, read-same}
 use Rattle.world_laws.proofs.Named.{name-cases}
 use Rattle.world_laws.proofs.NameFacts.{IsHeldAt, held-there, held-here, held-elsewhere}
 use Rattle.world_laws.proofs.LeftAlone.{was-there}
 use Rattle.world_laws.proofs.Stays.{IsMore, SameName, SameCall, name-stays, call-stays}
+use Rattle.world_laws.specs.Cancels.{Owing, Wakes}
 use Rattle.rule_laws.proofs.Nodes.{node-with-directory}
-use Rattle.rule_laws.proofs.own.Rebodied.{name-rebodied}
+use Rattle.rule_laws.proofs.own.Rebodied.{name-rebodied, IsBodyOf}
+use Rattle.rule_laws.proofs.own.Alone.{process-is-body, process-unchanged, process-waiters}
 use Rattle.route_laws.proofs.exits.Arrivals.{Arrives, arrived-known, held-kept, still-there}
 use Rattle.route_laws.proofs.exits.Released.{call_released, deed_released, released_name, name-released, released_call, call-comes}
 use Rattle.route_laws.proofs.exits.Parcels.{HasParcel, hand-sender, parcel-in-hand, is-used-there, in-parcel-made, no-object-in}
-use Rattle.route_laws.proofs.exits.Hands.{names, hand_then, parcel-apart, held_with, seen-held, in-hand-then, none-in-hand, kept-then, none-kept-then, place-then, place-still, call-in-hand, parcel-was}
+use Rattle.route_laws.proofs.exits.Hands.{names, hand_then, parcel-apart, held_with, seen-held, in-hand-then, none-in-hand, kept-then, none-kept-then, place-then, place-still, parcel-was, kept-in-hand}
 use Rattle.route_laws.proofs.exits.Onward.{plays-released, ranges-released}
 use Rattle.route_laws.proofs.exits.SentOn.{hand-not-brought, hand-plays}
 use Rattle.route_laws.proofs.exits.SentAll.{no-lease-released}
 use Rattle.route_laws.proofs.exits.DeedMoves.{where-released, comes-released}
-use Rattle.route_laws.proofs.exits.Exits.{next, exit_entry, deeds_then, exit-leaves}
+use Rattle.route_laws.proofs.exits.Exits.{next, exit_entry, deeds_then, exit-leaves, exit_is}
 use Rattle.route_laws.proofs.exits.ExitDeeds.{node_then, node-after-exit, then-in-parcel, then-parent, then-other, body-other}
 use Rattle.route_laws.proofs.exits.ExitMoves.{IsExitMove, exit_beside, exit-born, between, calls-between, exit-keeps}
+use Rattle.route_laws.proofs.exits.Cancelled.{cancel_released}
 
 -- ---- a name of the parcel
 
 -- it was in hand, no other node will have it, and it rests at the leader now
-abbrev pub rested : NameSight → Body → (ℕ → Hold) → NameSight
-rested x body begins =
+abbrev pub rested : NameSight → Body → Body → (ℕ → Hold) → NameSight
+rested x part body begins =
     record x {
       place = Some (At 1);
+      part = part;
       body = body;
       deed = InTable 1;
       held = held_as (InTable 1) body;
@@ -69,11 +74,13 @@ pub record RestsHere (x : NameSight) (begins : ℕ → Hold) : Type 0 where
   pub others : (h : ℕ) → 2 ≤ h → PlaysTo (begins h) (x.steps h) false
 
 -- all holds of it
-pub name-rests : (script : Script) (pids : ℕ → ℕ) (born : ℕ → Bool) (name : Name) (x : NameSight) (body : Body)
-    (begins : ℕ → Hold) → RestsHere x begins → NameHolds script pids born name x
-    → NameHolds script pids born name (rested x body begins)
-name-rests script pids born name x body begins r h =
+pub name-rests : (script : Script) (pids : ℕ → ℕ) (born : ℕ → Bool) (name : Name) (x : NameSight) (part body : Body)
+    (begins : ℕ → Hold) → IsBodyOf script part body → RestsHere x begins → NameHolds script pids born name x
+    → NameHolds script pids born name (rested x part body begins)
+name-rests script pids born name x part body begins is r h =
     record {
+      parts = is.parts;
+      callers = is.callers;
       made = (λ e. absurd (not-unmade e), λ u. absurd (false≢true (sym u ∙ r.used)));
       place_fits = refl;
       tables = λ q. refl;
@@ -102,19 +109,20 @@ some-true None h = absurd (false≢true h)
 some-true (Some v) h = (v, refl)
 
 -- a name that the leader believes at itself is in its table
-pub at-leader : (script : Script) (w : World) (hand : List Held) (b : Beside) (name : Name) → Holds script w hand b
+pub at-leader : (script : Script) (w : World) (hand : List Held) {owes : Owing} (b : Beside) (name : Name) → HoldsOwing
+    script w hand owes b
     → place_of (directory_of w) name ≡ Some (At 1) → b.deed name ≡ InTable 1
 at-leader script w hand b name holds place =
     let x : NameSight = name_sight script w hand b name
     in let known : NameHolds script b.pids (is_born_in w) name x = holds.names name
     in let held = some-true (held_at w name 1)
     (known.leader ∙ ap (λ o. is_there 1 (believed o (maker_tells x x.maker))) place)
-    in let at : IsHeldAt (b.deed name) (body_in b.kernel name) 1 held.0 =
-    held-there (b.deed name) (body_in b.kernel name) 1 held.0 (sym (known.tables 1) ∙ held.1)
+    in let at : IsHeldAt (b.deed name) (b.body name) 1 held.0 =
+    held-there (b.deed name) (b.body name) 1 held.0 (sym (known.tables 1) ∙ held.1)
     in at.deed_is
 
-module _ (script : Script) (w : World) (items : List Held) (parcel : Parcel) (b : Beside)
-    (holds : Holds script w (Ending parcel ∷ items) b) (reads : DeedsAreRead b.kernel)
+module _ (script : Script) (w : World) (items : List Held) (parcel : Parcel) {owes : Owing} (b : Beside)
+    (holds : HoldsOwing script w (Ending parcel ∷ items) owes b) (reads : DeedsAreRead b.kernel b.body)
     (some_node : 1 ≤ node_count script)
     (place : place_of (directory_of w) (Proc parcel.parent) ≡ Some (At 1)) where
   abbrev before : List Held
@@ -160,7 +168,7 @@ module _ (script : Script) (w : World) (items : List Held) (parcel : Parcel) (b 
   moved = deed_released script b.pids of
 
   module _ (d2 : Directory) (arrives : Arrives (directory_of w) d2 (names script w items parcel b holds) 1)
-      (w' : World)
+      (whole : whole_kernels.Kernel) (w' : World)
       (changes : Changes script 1 w w' (with_directory (node_then script w (Ending parcel ∷ items) b holds parcel
       (hand-sender script w items parcel b holds).node (hand-sender script w items parcel b holds).call
       (InHand (hand-sender script w items parcel b holds).node) (parcel-in-hand script w items parcel b holds) reads
@@ -176,6 +184,9 @@ module _ (script : Script) (w : World) (items : List Held) (parcel : Parcel) (b 
 
     abbrev calls_now : ℕ → CallPlace
     calls_now p = call_released of (b.call p)
+
+    abbrev cancels_now : ℕ → CancelPlace
+    cancels_now p = cancel_released of (b.cancel p)
 
     directory-now : directory_of w' ≡ d2
     directory-now = ap (λ (m : Node). m.leader.directory) changes.here
@@ -231,14 +242,29 @@ module _ (script : Script) (w : World) (items : List Held) (parcel : Parcel) (b 
     abbrev pub leader_beside : Beside
     leader_beside =
         exit_beside script w before b holds parcel c sender.call (InHand c) leader_parcel reads 1 parent-at-leader moved
-        refl (comes-released script b.pids of) where-moved calls_now w' hand_now n [] changes is-exit-move
+        refl (comes-released script b.pids of) where-moved calls_now cancels_now whole w' hand_now n [] changes
+        is-exit-move
 
     more : IsMore (is_born_in w) (is_born_in w')
     more =
         exit-born script w before b holds parcel c sender.call (InHand c) leader_parcel reads 1 parent-at-leader moved
-        refl (comes-released script b.pids of) where-moved calls_now w' hand_now n [] changes is-exit-move
+        refl (comes-released script b.pids of) where-moved calls_now cancels_now whole w' hand_now n [] changes
+        is-exit-move
 
     -- ---- the names
+
+    objects : (name : Name) → is_object name ≡ true → body_in after name ≡ body_in b.kernel name
+    objects =
+        let e = exit_is script w before b holds parcel c sender.call (InHand c) leader_parcel reads 1 parent-at-leader
+        in e.bodies_are.objects
+
+    body-then : (name : Name) → IsBodyOf script (body_in after name) (leader_beside.body name)
+    body-then = process-is-body script w before owes b holds after objects
+
+    part-other : (name : Name) → has_deed_of name parcel ≡ false → name ≢ Proc parcel.parent
+        → body_in after name ≡ body_in b.kernel name
+    part-other =
+        body-other script w before b holds parcel c sender.call (InHand c) leader_parcel reads 1 parent-at-leader
 
     module _ (name : Name) where
       abbrev s : NameSight
@@ -278,15 +304,17 @@ module _ (script : Script) (w : World) (items : List Held) (parcel : Parcel) (b 
 
       steps-now : (q : ℕ) → s.steps q ≡ t.steps q
       steps-now q =
-          sym (plays-released of b.call name (frames_to w' q 1)
-          ∙ made-same script 1 w w' n [] [] entries changes (λ t s fs. plays b.call name fs)
+          sym (ap (λ used. plays used calls_now name (frames_to w' q 1)) used-same
+          ∙ plays-released of s.used b.call name (frames_to w' q 1)
+          ∙ made-same script 1 w w' n [] [] entries changes (λ t r fs. plays s.used b.call name fs)
           (λ t s. flat_map-is-list-map _) tt tt q 1)
 
       ranges-now : (q : ℕ) → s.ranges q ≡ t.ranges q
       ranges-now q =
-          sym (ranges-released of b.call name (frames_to w' q 1)
+          sym (ap (λ used. flat_map (range_steps_of used calls_now name) (frames_to w' q 1)) used-same
+          ∙ ranges-released of s.used b.call name (frames_to w' q 1)
           ∙ made-same script 1 w w' n [] [] entries changes
-          (λ t s fs. flat_map (range_steps_of b.call name) fs) (λ t s. flat_map-is-list-map _) tt tt q 1)
+          (λ t r fs. flat_map (range_steps_of s.used b.call name) fs) (λ t s. flat_map-is-list-map _) tt tt q 1)
 
       placed-now : (q : ℕ) → s.placed q ≡ t.placed q
       placed-now q =
@@ -340,10 +368,10 @@ module _ (script : Script) (w : World) (items : List Held) (parcel : Parcel) (b 
                   (hand-plays script w before b holds name c deed-was q low);
             }
 
-        rest-seen : get_named held_then name ≡ Some (body_in after name)
-            → SameName (rested s (body_in after name) t.begins) t
+        rest-seen : get_named held_then name ≡ Some t.body → SameName (rested s t.part t.body t.begins) t
         rest-seen is =
             record {
+              part = refl;
               place = sym (ap (λ z. place_of z name) directory-now
                   ∙ place-then script w items parcel b holds 1 d2 arrives name e);
               maker = sym maker-same;
@@ -351,7 +379,7 @@ module _ (script : Script) (w : World) (items : List Held) (parcel : Parcel) (b 
               used = sym used-same;
               body = refl;
               deed = sym (ap (λ t. if t then InTable 1 else moved (b.deed name)) e);
-              held = held-now (body_in after name) is;
+              held = held-now t.body is;
               brought = brought-now;
               kept = λ pid. sym (ap (λ z. filter (is_parcel_with name) (held_for z (Proc pid))) directory-now
                   ∙ none-kept-then script w items parcel b holds 1 d2 arrives name e pid);
@@ -363,11 +391,11 @@ module _ (script : Script) (w : World) (items : List Held) (parcel : Parcel) (b 
               news = news-now;
             }
 
-        name-in-parcel : get_named held_then name ≡ Some (body_in after name)
+        name-in-parcel : get_named held_then name ≡ Some t.body
             → NameHolds script b.pids (is_born_in w') name t
         name-in-parcel is =
             name-stays script b.pids (is_born_in w) (is_born_in w') name _ _ more (rest-seen is)
-            (name-rests script b.pids (is_born_in w) name s (body_in after name) t.begins rests-here seen)
+            (name-rests script b.pids (is_born_in w) name s t.part t.body t.begins (body-then name) rests-here seen)
 
       -- any other
 
@@ -387,11 +415,13 @@ module _ (script : Script) (w : World) (items : List Held) (parcel : Parcel) (b 
             (λ (m : Node). begin m.stage (is_some (get_named m.deeds name)) (comes_to script w' name q))
             (ap (λ o. begin (stage_of w 1) o (comes_to script w' name q)) same) q)
 
-        seen-as : (z : Body) (held : ℕ → Option Body) → z ≡ body_in after name → ((q : ℕ) → held q ≡ t.held q)
+        seen-as : (part z : Body) (held : ℕ → Option Body) → part ≡ t.part → z ≡ t.body
+            → ((q : ℕ) → held q ≡ t.held q)
             → is_some (get_named held_then name) ≡ is_some (held_at w name 1)
-            → SameName (record y { body = z; held = held }) t
-        seen-as z held body_is held_is same =
+            → SameName (record y { part = part; body = z; held = held }) t
+        seen-as part z held part_is body_is held_is same =
             record {
+              part = part_is;
               place = sym (ap (λ d. place_of d name) directory-now
                   ∙ place-still script w items parcel b holds 1 d2 arrives name e);
               maker = sym maker-same;
@@ -416,18 +446,17 @@ module _ (script : Script) (w : World) (items : List Held) (parcel : Parcel) (b 
             let held = then-other script w before b holds parcel c sender.call (InHand c) leader_parcel reads 1
             parent-at-leader name e other
             in name-stays script b.pids (is_born_in w) (is_born_in w') name _ _ more
-            (seen-as s.body s.held
-            (sym (body-other script w before b holds parcel c sender.call (InHand c) leader_parcel reads 1
-            parent-at-leader name e other))
+            (seen-as s.part s.body s.held (sym (part-other name e other))
+            (sym (process-unchanged script w before owes b holds after objects name (part-other name e other)))
             (λ q. sym (read-same script 1 w w' n [] [] entries changes (λ (m : Node). get_named m.deeds name) held q))
             (ap is_some held)) released
 
         name-of-parent : name ≡ Proc parcel.parent → NameHolds script b.pids (is_born_in w') name t
         name-of-parent is =
             name-stays script b.pids (is_born_in w) (is_born_in w') name _ _ more
-            (seen-as (body_in after name) (held_as (moved (b.deed name)) (body_in after name)) refl held-now
+            (seen-as t.part t.body (held_as (moved (b.deed name)) t.body) refl refl held-now
             (ap is_some held-is ∙ sym (ap is_some held-was)))
-            (name-rebodied script b.pids (is_born_in w) name y 1 (body_in after name) at released)
+            (name-rebodied script b.pids (is_born_in w) name y 1 t.part t.body (body-then name) at released)
           where
             deed-is : b.deed name ≡ InTable 1
             deed-is = ap b.deed is ∙ parent-at-leader
@@ -435,24 +464,24 @@ module _ (script : Script) (w : World) (items : List Held) (parcel : Parcel) (b 
             at : moved (b.deed name) ≡ InTable 1
             at = ap moved deed-is
 
-            held-is : get_named held_then name ≡ Some (body_in after name)
+            held-is : get_named held_then name ≡ Some t.body
             held-is =
-                subst (λ m. get_named held_then m ≡ Some (body_in after m)) (sym is)
+                subst (λ m. get_named held_then m ≡ Some (leader_beside.body m)) (sym is)
                 (then-parent script w before b holds parcel c sender.call (InHand c) leader_parcel reads 1
                 parent-at-leader)
 
             held-was : held_at w name 1 ≡ Some s.body
             held-was = seen.tables 1 ∙ ap (λ d. held_as d s.body 1) deed-is ∙ held-here 1 s.body
 
-            held-now : (q : ℕ) → held_as (moved (b.deed name)) (body_in after name) q ≡ held_at w' name q
+            held-now : (q : ℕ) → held_as (moved (b.deed name)) t.body q ≡ held_at w' name q
             held-now q =
-                ap (λ d. held_as d (body_in after name) q) at
+                ap (λ d. held_as d t.body q) at
                 ∙ elim (cases_eq q 1) [
                   | inl g ↦
-                      subst (λ y. held_as (InTable 1) (body_in after name) y ≡ held_at w' name y) (sym g)
-                      (held-here 1 (body_in after name) ∙ sym (held-one ∙ held-is))
+                      subst (λ y. held_as (InTable 1) t.body y ≡ held_at w' name y) (sym g)
+                      (held-here 1 t.body ∙ sym (held-one ∙ held-is))
                   | inr other ↦
-                      held-elsewhere 1 q (body_in after name) other
+                      held-elsewhere 1 q t.body other
                       ∙ sym (held-else q other ∙ seen.tables q ∙ ap (λ d. held_as d s.body q) deed-is
                       ∙ held-elsewhere 1 q s.body other)
                 ]
@@ -462,7 +491,8 @@ module _ (script : Script) (w : World) (items : List Held) (parcel : Parcel) (b 
         false≢true
         (sym (no-object-in script w before b holds parcel c sender.call (InHand c) leader_parcel name g) ∙ e)
 
-    names-by : (name : Name) → has_deed_of name parcel ≡ true → get_named held_then name ≡ Some (body_in after name)
+    names-by : (name : Name) → has_deed_of name parcel ≡ true → get_named held_then name ≡ Some
+        (leader_beside.body name)
     names-by (Proc q) e =
         then-in-parcel script w before b holds parcel c sender.call (InHand c) leader_parcel reads 1 parent-at-leader q
         e
@@ -505,7 +535,9 @@ module _ (script : Script) (w : World) (items : List Held) (parcel : Parcel) (b 
               (λ t s fs. filter (is_about p t s) fs) (λ t s. filter-is-list-map (is_about p t s)) tt tt to r);
           held = λ name. sym (ap (λ z. filter (is_item_about p) (held_for z name)) directory-now
               ∙ held-kept dir d2 of 1 arrives (is_item_about p) name);
-          hand = sym (call-in-hand script w items parcel b holds p);
+          hand = sym (kept-in-hand script w items parcel b holds (is_item_about p) refl);
+          waiters = λ name. sym (ap (filter (is_waiter_of p))
+              (process-waiters script w before owes b holds after objects name));
         }
       where
         same : {A : Type 0} (f : Node → A) → f n ≡ f (node_of w 1) → f (node_of w' p) ≡ f (node_of w p)
@@ -521,9 +553,11 @@ module _ (script : Script) (w : World) (items : List Held) (parcel : Parcel) (b 
         (calls-between script w before b holds parcel c sender.call (InHand c) leader_parcel reads 1 parent-at-leader p
         low high))
 
-    -- The exit is carried out at the leader, and what was held for the parcel's names is in hand.
-    pub exit-at-leader : Holds script w' hand_now leader_beside
+    -- The exit is carried out at the leader, and what was held for the parcel's names is in hand. It may wake the
+    -- parent.
+    pub exit-at-leader : HoldsOwing script w' hand_now Wakes leader_beside
     exit-at-leader =
         exit-keeps script w before b holds parcel c sender.call (InHand c) leader_parcel reads 1 parent-at-leader moved
-        refl (comes-released script b.pids of) where-moved calls_now w' hand_now n [] changes is-exit-move leader-names
+        refl (comes-released script b.pids of) where-moved calls_now cancels_now whole w' hand_now n [] changes
+        is-exit-move leader-names
         calls-then

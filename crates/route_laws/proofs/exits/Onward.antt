@@ -11,7 +11,7 @@ use Rattle.node_model.specs.Kinds.{is_object}
 use Rattle.node_model.specs.Directory.{At}
 use Rattle.world_model.specs.Node.{Stage, Unborn, Living, Leaving, Left, Over}
 use Rattle.world_laws.specs.Places.{CallPlace, IsHeld, IsInHand, Unmade, InHand, InExitTo}
-use Rattle.world_laws.specs.Plays.{Hold, Has, Lacks, Done, PlayStep, Comes, Goes, AllGo, IsNeeded, play, play_on, plays, steps_of, steps_if, begin, is_has, is_call_on, is_sent_by_place}
+use Rattle.world_laws.specs.Plays.{Hold, Has, Lacks, Done, PlayStep, Comes, Goes, AllGo, IsNeeded, play, play_on, plays, steps_of, steps_if, begin, is_has, is_call_on, is_lasting, needs_by}
 use Rattle.world_laws.specs.Names.{NameSight, NameHolds, PlaysTo, HasDeed, IsExitOf, range_steps_of, range_steps_if, IsSentThere, is_sent_by_range, held_as, may_be_at}
 use Rattle.world_laws.specs.Ways.{is_recall_all}
 use Rattle.world_laws.proofs.NameFacts.{has_left, one-if-sent}
@@ -77,22 +77,23 @@ exit-goes true c = refl
 exit-goes false c = goes-if c IsNeeded refl
 
 -- all are asked for by a RecallAll alone, whatever the name is
-go-is-recall : (call : ℕ → CallPlace) (name : Name) (f : Frame)
-    → list_any is_all_go (steps_of call name f) ≡ is_recall_all f
-go-is-recall call name (frames.Grant deed) = goes-if _ Comes refl
-go-is-recall call name (frames.Checkpoint pid parent deed vars) = goes-if _ Comes refl
-go-is-recall call name (frames.ExitTo parcel) = exit-goes _ _
-go-is-recall call name (frames.Recall other) = goes-if _ Goes refl
-go-is-recall call name frames.RecallAll = refl
-go-is-recall call name (frames.Forward asked) = goes-if _ IsNeeded refl
-go-is-recall call name f = refl
+go-is-recall : (used : Bool) (call : ℕ → CallPlace) (name : Name) (f : Frame)
+    → list_any is_all_go (steps_of used call name f) ≡ is_recall_all f
+go-is-recall used call name (frames.Grant deed) = goes-if _ Comes refl
+go-is-recall used call name (frames.Checkpoint pid parent deed vars) = goes-if _ Comes refl
+go-is-recall used call name (frames.ExitTo parcel) = exit-goes _ _
+go-is-recall used call name (frames.Recall other) = goes-if _ Goes refl
+go-is-recall used call name frames.RecallAll = refl
+go-is-recall used call name (frames.Forward asked) = goes-if _ IsNeeded refl
+go-is-recall used call name (frames.Cancel asked) = goes-if _ IsNeeded refl
+go-is-recall used call name f = refl
 
-all-go : (call : ℕ → CallPlace) (name : Name) (fs : List Frame)
-    → list_any is_all_go (plays call name fs) ≡ list_any is_recall_all fs
-all-go call name [] = refl
-all-go call name (f ∷ fs) =
-    any-both is_all_go (steps_of call name f) (plays call name fs)
-    ∙ (λ i. go-is-recall call name f i || all-go call name fs i)
+all-go : (used : Bool) (call : ℕ → CallPlace) (name : Name) (fs : List Frame)
+    → list_any is_all_go (plays used call name fs) ≡ list_any is_recall_all fs
+all-go used call name [] = refl
+all-go used call name (f ∷ fs) =
+    any-both is_all_go (steps_of used call name f) (plays used call name fs)
+    ∙ (λ i. go-is-recall used call name f i || all-go used call name fs i)
 
 done-begins : (stage : Stage) (holds comes : Bool) → is_done (begin stage holds comes) ≡ has_left stage
 done-begins Left holds comes = refl
@@ -118,14 +119,14 @@ done-begins Over holds comes = by-test (holds || comes)
     by-test false = refl
 
 -- So two names' plays at a node both end so, or neither.
-pub done-together : (call : ℕ → CallPlace) (a b : Name) (stage : Stage) (ha ca hb cb : Bool) (fs : List Frame)
-    (last end : Hold) → play (begin stage ha ca) (plays call a fs) ≡ Some last
-    → play (begin stage hb cb) (plays call b fs) ≡ Some end → is_done last ≡ is_done end
-done-together call a b stage ha ca hb cb fs last end p q =
-    done-by (plays call a fs) (begin stage ha ca) last p
+pub done-together : (used also : Bool) (call : ℕ → CallPlace) (a b : Name) (stage : Stage) (ha ca hb cb : Bool)
+    (fs : List Frame) (last end : Hold) → play (begin stage ha ca) (plays used call a fs) ≡ Some last
+    → play (begin stage hb cb) (plays also call b fs) ≡ Some end → is_done last ≡ is_done end
+done-together used also call a b stage ha ca hb cb fs last end p q =
+    done-by (plays used call a fs) (begin stage ha ca) last p
     ∙ (λ i. (done-begins stage ha ca ∙ sym (done-begins stage hb cb)) i
-    || (all-go call a fs ∙ sym (all-go call b fs)) i)
-    ∙ sym (done-by (plays call b fs) (begin stage hb cb) end q)
+    || (all-go used call a fs ∙ sym (all-go also call b fs)) i)
+    ∙ sym (done-by (plays also call b fs) (begin stage hb cb) end q)
 
 -- what has nothing, and may still have something
 pub lacks-is : (hold : Hold) → is_has hold ≡ false → is_done hold ≡ false → hold ≡ Lacks
@@ -135,14 +136,14 @@ lacks-is Done h e = absurd (false≢true (sym e))
 
 -- ---- calls that come into the hand
 
-by-place-still : (names : List Name) (c : CallPlace)
-    → is_sent_by_place (call_released names c) ≡ is_sent_by_place c
-by-place-still names (IsHeld m) = by-test (is_one_of m names)
+needs-still : (names : List Name) (lasting : Bool) (c : CallPlace)
+    → needs_by lasting (call_released names c) ≡ needs_by lasting c
+needs-still names lasting (IsHeld m) = by-test (is_one_of m names)
   where
-    by-test : (t : Bool) → is_sent_by_place (if t then IsInHand else IsHeld m) ≡ false
+    by-test : (t : Bool) → needs_by lasting (if t then IsInHand else IsHeld m) ≡ false
     by-test true = refl
     by-test false = refl
-by-place-still names c = refl
+needs-still names lasting c = refl
 
 by-range-still : (names : List Name) (c : CallPlace)
     → is_sent_by_range (call_released names c) ≡ is_sent_by_range c
@@ -154,22 +155,24 @@ by-range-still names (IsHeld m) = by-test (is_one_of m names)
 by-range-still names c = refl
 
 -- they aren't in frames: plays stay
-pub plays-released : (names : List Name) (call : ℕ → CallPlace) (name : Name) (fs : List Frame)
-    → plays (λ p. call_released names (call p)) name fs ≡ plays call name fs
-plays-released names call name fs = λ i. flat_map (λ f. step f i) fs
+pub plays-released : (names : List Name) (used : Bool) (call : ℕ → CallPlace) (name : Name) (fs : List Frame)
+    → plays used (λ p. call_released names (call p)) name fs ≡ plays used call name fs
+plays-released names used call name fs = λ i. flat_map (λ f. step f i) fs
   where
-    step : (f : Frame) → steps_of (λ p. call_released names (call p)) name f ≡ steps_of call name f
+    step : (f : Frame) → steps_of used (λ p. call_released names (call p)) name f ≡ steps_of used call name f
     step (frames.Forward asked) =
-        ap (λ t. steps_if (is_call_on name asked && t) IsNeeded) (by-place-still names (call asked.caller))
+        ap (λ t. steps_if (is_call_on name asked && t) IsNeeded)
+        (needs-still names (used && (is_object name && is_lasting asked)) (call asked.caller))
     step f = refl
 
 -- and so does what was sent by range
-pub ranges-released : (names : List Name) (call : ℕ → CallPlace) (name : Name) (fs : List Frame)
-    → flat_map (range_steps_of (λ p. call_released names (call p)) name) fs
-    ≡ flat_map (range_steps_of call name) fs
-ranges-released names call name fs = λ i. flat_map (λ f. step f i) fs
+pub ranges-released : (names : List Name) (used : Bool) (call : ℕ → CallPlace) (name : Name) (fs : List Frame)
+    → flat_map (range_steps_of used (λ p. call_released names (call p)) name) fs
+    ≡ flat_map (range_steps_of used call name) fs
+ranges-released names used call name fs = λ i. flat_map (λ f. step f i) fs
   where
-    step : (f : Frame) → range_steps_of (λ p. call_released names (call p)) name f ≡ range_steps_of call name f
+    step : (f : Frame)
+        → range_steps_of used (λ p. call_released names (call p)) name f ≡ range_steps_of used call name f
     step (frames.Forward asked) =
         ap (λ t. range_steps_if (is_call_on name asked && t) IsSentThere)
         (by-range-still names (call asked.caller))
@@ -204,6 +207,8 @@ pub name-gone-onward : (script : Script) (pids : ℕ → ℕ) (born : ℕ → Bo
     → NameHolds script pids born name (gone_onward x c node parcel)
 name-gone-onward script pids born name x c node parcel g h =
     record {
+      parts = h.parts;
+      callers = h.callers;
       made = (λ e. absurd (not-unmade e), λ u. absurd (false≢true (sym u ∙ g.used)));
       place_fits = ap (may_be_at (is_object name)) (sym g.deed) ∙ h.place_fits;
       tables = λ q. h.tables q ∙ ap (λ d. held_as d x.body q) g.deed;

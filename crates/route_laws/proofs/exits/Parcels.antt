@@ -34,13 +34,15 @@ use Rattle.world_laws.specs.Callers.{call_sight, HasCall, IsSoFar, IsToBeMade, H
 use Rattle.world_laws.specs.Ways.{IsParcelOf, at_hand, under_way_of, HasSender}
 use Rattle.world_laws.specs.Ranges.{kind_sight}
 use Rattle.world_laws.specs.Families.{NodeHolds, FamilyHolds, IsItsOwn, RestsBelow, IsWhereFor, checkpoints_to, is_first_stage}
-use Rattle.world_laws.specs.Invariant.{Holds, process_deed}
+use Rattle.world_laws.specs.Invariant.{process_deed, HoldsOwing}
 use Rattle.world_laws.specs.Deeds.{DeedsAreRead}
 use Rattle.world_laws.proofs.Numbers.{zero-is-unused}
+use Rattle.world_laws.specs.Cancels.{Owing}
 use Rattle.rule_laws.proofs.ends.Given.{all-of-map, packed-has}
 use Rattle.rule_laws.proofs.ends.KeptItems.{first-has, first-has-all, has-its-own}
 use Rattle.rule_laws.proofs.ends.RecallAlls.{EndsBy, ends-by, ends-by-end, end-is-allowed, over-or-own}
 use Rattle.rule_laws.proofs.ends.Taken.{packed-same, each_with, read-packed, each-gets, each-rises, each-passes}
+use Rattle.route_laws.proofs.exits.Parts.{process-part}
 
 -- ---- where a parcel may be
 
@@ -85,12 +87,12 @@ pub record HasParcel (script : Script) (w : World) (b : Beside) (parcel : Parcel
   pub under_way : under_way_of w c ≡ Some call
   pub on_way : IsOnItsWay c place
   pub deeds : (name : Name) → has_deed_of name parcel ≡ true → b.deed name ≡ place
-  pub has : (name : Name) → has_deed_of name parcel ≡ true → HasDeed name (body_in b.kernel name) (b.pids c) parcel
+  pub has : (name : Name) → has_deed_of name parcel ≡ true → HasDeed name (b.body name) (b.pids c) parcel
   pub all : (name : Name) → b.deed name ≡ place → has_deed_of name parcel ≡ true
 
 -- a name whose deed is somewhere is used
-pub is-used-there : (script : Script) (w : World) (hand : List Held) (b : Beside) (name : Name)
-    → Holds script w hand b → b.deed name ≢ Unmade → is_used_name b.kernel name ≡ true
+pub is-used-there : (script : Script) (w : World) (hand : List Held) {owes : Owing} (b : Beside) (name : Name)
+    → HoldsOwing script w hand owes b → b.deed name ≢ Unmade → is_used_name b.kernel name ≡ true
 is-used-there script w hand b name holds made = by-test (is_used_name b.kernel name) refl
   where
     by-test : (t : Bool) → is_used_name b.kernel name ≡ t → is_used_name b.kernel name ≡ true
@@ -100,7 +102,8 @@ is-used-there script w hand b name holds made = by-test (is_used_name b.kernel n
         in absurd (made (known.made.1 e))
 
 -- and it has a number
-pub has-number : (script : Script) (w : World) (hand : List Held) (b : Beside) (pid : ℕ) → Holds script w hand b
+pub has-number : (script : Script) (w : World) (hand : List Held) {owes : Owing} (b : Beside) (pid : ℕ) → HoldsOwing
+    script w hand owes b
     → b.deed (Proc pid) ≢ Unmade → pid ≢ 0
 has-number script w hand b pid holds made z =
     false≢true
@@ -110,8 +113,8 @@ has-number script w hand b pid holds made z =
 
 -- ---- in the leader's hand
 
-module _ (script : Script) (w : World) (items : List Held) (parcel : Parcel) (b : Beside)
-    (holds : Holds script w (Ending parcel ∷ items) b) where
+module _ (script : Script) (w : World) (items : List Held) (parcel : Parcel) {owes : Owing} (b : Beside)
+    (holds : HoldsOwing script w (Ending parcel ∷ items) owes b) where
   -- the node that has left, and handed it over
   pub hand-sender : HasSender script b.pids (stage_of w) (under_way_of w) parcel
   hand-sender =
@@ -149,7 +152,7 @@ module _ (script : Script) (w : World) (items : List Held) (parcel : Parcel) (b 
         has = λ name e.
             let first = first-has script w items parcel b holds name e
             in let has = first.2
-            in subst (λ g. HasDeed name (body_in b.kernel name) (b.pids g) parcel)
+            in subst (λ g. HasDeed name (b.body name) (b.pids g) parcel)
             (same-node first.0 has.of_process) first.2;
         all = λ name deed. first-has-all script w items parcel b holds name hand-sender.node deed its.pid;
       }
@@ -166,7 +169,8 @@ some-same e = cc
 four-true : (p q r s : Bool) → p ≡ true → q ≡ true → r ≡ true → s ≡ true → (p && (q && (r && s))) ≡ true
 four-true p q r s e1 e2 e3 e4 = rw (e1, e2, e3, e4) refl
 
-module _ (script : Script) (w : World) (hand : List Held) (b : Beside) (holds : Holds script w hand b)
+module _ (script : Script) (w : World) (hand : List Held) {owes : Owing} (b : Beside)
+    (holds : HoldsOwing script w hand owes b)
     (parcel : Parcel) (c : ℕ) (call : Call) (place : DeedPlace)
     (parcel_is : HasParcel script w b parcel c call place) where
   -- what it is of
@@ -328,16 +332,18 @@ module _ (script : Script) (w : World) (hand : List Held) (b : Beside) (holds : 
 
   -- ---- it is read, and fits
 
-  module _ (reads : DeedsAreRead b.kernel) (deeds : Deeds)
+  module _ (reads : DeedsAreRead b.kernel b.body) (deeds : Deeds)
       (none_here : (k : ℕ) → has_deed_of (Proc k) parcel ≡ true → get deeds.processes k ≡ None) where
     read-there : (k : ℕ) (v : Body) → get bodies k ≡ Some v → read_deed (pack (Proc k) v) ≡ Some (part k)
     read-there k v there =
         let e = in-parcel k v there
         in let has = parcel_is.has (Proc k) e
+        in let body : b.body (Proc k) ≡ part k = process-part script w hand b k holds
         in ap read_deed
-        (packed-same k v (part k) bodies is_of.ordered there
-        (subst (λ ds. Contains ds (pack (Proc k) (part k))) is_of.packed has.there))
+        (packed-same k v (b.body (Proc k)) bodies is_of.ordered there
+        (subst (λ ds. Contains ds (pack (Proc k) (b.body (Proc k)))) is_of.packed has.there))
         ∙ reads (Proc k) (is-used-there script w hand b (Proc k) holds (in-parcel-made (Proc k) e))
+        ∙ ap Some body
 
     all-read : read_deeds parcel.deeds ≡ Some (each_with part bodies)
     all-read =

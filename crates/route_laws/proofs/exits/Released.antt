@@ -10,16 +10,18 @@ use Rattle.pico_base.specs.declared.numbers.Name.TheVariants.{Proc, Msg, Sem}
 use Rattle.pico_base.specs.declared.script.Script.{Script}
 use Rattle.rpc_frame.specs.declared.asked.Asked.{Asked}
 use Rattle.rpc_frame.specs.declared.frame.Frame.{Frame}
+use Rattle.waiting_model.specs.declared.callers.Waiting.{Waiting}
 use Rattle.node_model.specs.declared.held.Held.{Held}
 use Rattle.node_model.specs.declared.held.Held.TheVariants.{Request}
 use Rattle.node_model.specs.Kinds.{is_same_name}
 use Rattle.node_model.specs.Bodies.{Body}
 use Rattle.node_model.specs.Leases.{Leases}
+use Rattle.node_model.specs.Serving.{waiting_as}
 use Rattle.world_model.specs.Node.{Stage, Unborn, Living, Leaving, Left, Over}
 use Rattle.world_model.specs.Calls.{is_for_others}
 use Rattle.world_laws.specs.Places.{DeedPlace, Unmade, InTable, InCheckpoint, InGrant, InGiveBack, InLeft, InKept, InHand, InExitTo, CallPlace, IsHeld, IsInHand, InAnswer, Ends}
 use Rattle.world_laws.specs.Names.{NameSight, NameHolds, OneIf, IsBringer, IsItemWith, held_as, is_stream_of, is_kept_for, is_hand_place, node_in, may_be_at, forker}
-use Rattle.world_laws.specs.Callers.{CallSight, CallHolds, HasCall, HasNoCall, HasCallOrNone, IsFree, FreeIn, HasEnded, IsJustThere, IsNowhere, IsSoFar, IsToBeMade, IsBetween, asked_of, only_if, is_in_stream, frame_at, is_held_at, is_in_hand, is_on, may_be_in, lease_is_over, is_end_place}
+use Rattle.world_laws.specs.Callers.{CallSight, CallHolds, HasCall, HasNoCall, HasCallOrNone, IsFree, FreeIn, HasEnded, IsJustThere, IsNowhere, IsSoFar, IsToBeMade, IsBetween, asked_of, only_if, is_in_stream, frame_at, is_held_at, is_in_hand, is_on, may_be_in, lease_is_over, is_end_place, is_waiting_at}
 use Rattle.world_laws.proofs.Named.{other-name}
 use Rattle.route_laws.proofs.exits.Arrivals.{is_one_of, AreApart, one-of-all, none-of-all, just-one-if, just-one-is}
 
@@ -37,7 +39,7 @@ deed_released script pids names (InKept g) =
 deed_released script pids names place = place
 
 -- one name of a list and one that isn't in it are two
-apart-names : (names : List Name) (a b : Name) → is_one_of a names ≡ true → is_one_of b names ≡ false → a ≢ b
+pub apart-names : (names : List Name) (a b : Name) → is_one_of a names ≡ true → is_one_of b names ≡ false → a ≢ b
 apart-names names a b in_it not_in e =
     false≢true (sym not_in ∙ ap (λ n. is_one_of n names) (sym e) ∙ in_it)
 
@@ -237,6 +239,8 @@ module _ (script : Script) (pids : ℕ → ℕ) (names : List Name) where
       → IsSeenHeld x f → NameHolds script pids born name x → NameHolds script pids born name (released_name x f)
   name-released born name x f apart s h =
       record {
+        parts = h.parts;
+        callers = h.callers;
         made = (λ e. h.made.0 (unmade-only x.deed e), λ u. ap now (h.made.1 u));
         place_fits = fits-still _ x.deed h.place_fits;
         tables = λ q. h.tables q ∙ held-still x.deed x.body q;
@@ -266,7 +270,7 @@ module _ (script : Script) (pids : ℕ → ℕ) (names : List Name) where
 -- ---- a call
 
 module _ (names : List Name) where
-  in-stream-still : (c : CallPlace) (p to sender : ℕ) (asked : Asked)
+  pub in-stream-still : (c : CallPlace) (p to sender : ℕ) (asked : Asked)
       → only_if (is_in_stream c p to sender) (frame_at c asked)
       ≡ only_if (is_in_stream (call_released names c) p to sender) (frame_at (call_released names c) asked)
   in-stream-still (IsHeld m) p to sender asked = by-test (is_one_of m names)
@@ -293,7 +297,7 @@ module _ (names : List Name) where
   none-of true xs e = refl
   none-of false xs e = e
 
-  call-held-still : (c : CallPlace) (name : Name) (item : Held) (xs : List Held)
+  pub call-held-still : (c : CallPlace) (name : Name) (item : Held) (xs : List Held)
       → xs ≡ only_if (is_held_at c name) item
       → (if is_one_of name names then [] else xs) ≡ only_if (is_held_at (call_released names c) name) item
   call-held-still (IsHeld m) name item xs e =
@@ -315,6 +319,15 @@ module _ (names : List Name) where
       (λ name. just-one-if (is_same_name m name) item (f name) (held name)))
       ∙ in-hand-by m item (is_one_of m names)
   call-hand-now c f item xs apart held e = ap (λ ys. ys ++ xs) (none-of-all f names held) ∙ e
+
+  waiting-still : (c : CallPlace) (name : Name) (w : Waiting)
+      → only_if (is_waiting_at c name) w ≡ only_if (is_waiting_at (call_released names c) name) w
+  waiting-still (IsHeld m) name w = by-test (is_one_of m names)
+    where
+      by-test : (t : Bool) → [] ≡ only_if (is_waiting_at (if t then IsInHand else IsHeld m) name) w
+      by-test true = refl
+      by-test false = refl
+  waiting-still c name w = refl
 
   on-is-for-others : (m : Name) (home : Home) → is_on m home ≡ true → is_for_others home ≡ true
   on-is-for-others m (homes.At other) h = refl
@@ -404,6 +417,7 @@ module _ (names : List Name) where
           in_streams = λ to sender. h.in_streams to sender ∙ in-stream-still x.call p to sender asked;
           held_for_names = λ name. call-held-still x.call name (Request asked) (x.held name) (h.held_for_names name);
           in_hand = call-hand-now x.call x.held (Request asked) x.hand apart h.held_for_names h.in_hand;
+          waiting = λ name. h.waiting name ∙ waiting-still x.call name (waiting_as asked);
         }
 
     call-or-none : (o : Option Call) → HasCallOrNone script p born x o → HasCallOrNone script p born y o
@@ -415,6 +429,7 @@ module _ (names : List Name) where
             in_streams = nowhere.in_streams;
             held_for_names = λ name. none-of (is_one_of name names) (x.held name) (nowhere.held_for_names name);
             in_hand = ap (λ ys. ys ++ x.hand) (none-of-all x.held names nowhere.held_for_names) ∙ nowhere.in_hand;
+            waiting = nowhere.waiting;
           };
           idle = ap (call_released names) none.idle;
           free = free x.stage none.free;
@@ -428,6 +443,7 @@ module _ (names : List Name) where
           between = between-still x.call p born has.between;
           so_far = so-far call x.call has.so_far;
           at_work = has.at_work;
+          started = has.started;
           tickets = has.tickets;
           try_left = has.try_left;
         }

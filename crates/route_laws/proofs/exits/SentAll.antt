@@ -1,6 +1,6 @@
 -- The first parcel in the leader's hand goes on to the node where its parent's deed is, and all holds as before.
-use Rattle.std.proofs.Common.{◌≡◌, ◌≢◌, ℕ, ◌≤◌, Bool, true, false, if◌then◌else◌, List, [], ◌∷◌, filter, Some, Contains, refl, ap, sym, subst, ◌∙◌, inl, inr, arith, append-nil}
-use Rattle.std.proofs.lemmas.Bool.{cases_eq}
+use Rattle.std.proofs.Common.{◌≡◌, ◌≢◌, ℕ, ◌≤◌, Bool, true, false, if◌then◌else◌, List, [], ◌∷◌, filter, Some, Contains, refl, ap, sym, subst, ◌∙◌, inl, inr, arith, append-nil, is_none, not, ◌&&◌}
+use Rattle.std.proofs.lemmas.Bool.{cases_eq, false≢true}
 use Rattle.std.proofs.lemmas.List.Elements.{Contains-append_left, Contains-push}
 use Rattle.pico_base.specs.declared.numbers.Kind.{Kind}
 use Rattle.pico_base.specs.declared.numbers.Name.{Name}
@@ -12,32 +12,40 @@ use Rattle.rpc_frame.specs.declared.frame.Frame.TheVariants as frames
 use Rattle.number_maps.specs.Maps.{get}
 use Rattle.kernel_model.specs.Kernel.{Process}
 use Rattle.kernel_model.specs.Kernel as kernel
-use Rattle.entry_laws.specs.Entering.{HasHistory}
+use Rattle.waiting_model.specs.Calls.{may_park, waits_at}
 use Rattle.node_model.specs.declared.held.Held.{Held}
 use Rattle.node_model.specs.declared.held.Held.TheVariants.{Ending}
-use Rattle.node_model.specs.Kinds.{for_kind}
+use Rattle.node_model.specs.Kinds.{for_kind, is_object}
 use Rattle.node_model.specs.Directory.{Directory, At, place_of, has_deed_of, held_for, is_known}
+use Rattle.node_model.specs.Caller.{Caller}
 use Rattle.world_model.specs.Node.{Node}
 use Rattle.world_model.specs.Step.{with_directory}
 use Rattle.world_model.specs.World.{World, node_count, is_checkpoint}
 use Rattle.world_laws.specs.Places.{InHand, InExitTo, InCheckpoint, CallPlace, IsHeld, IsInHand, Beside}
-use Rattle.world_laws.specs.Sights.{node_of, directory_of, stage_of, is_born_in}
+use Rattle.world_laws.specs.Sights.{node_of, directory_of, stage_of, is_born_in, frames_to}
 use Rattle.world_laws.specs.Names.{forker}
 use Rattle.world_laws.specs.Callers.{CallHolds, call_sight, is_about, is_item_about}
 use Rattle.world_laws.specs.Ways.{way_sight, knows_parent, is_leaving_frame, is_recall_all, is_left_frame, IsParcelIn, left as left_in, sent as sent_in, kept as kept_in, at_hand, under_way_of, HasSender}
 use Rattle.world_laws.specs.Ranges.{KeysHold, has_lease}
 use Rattle.world_laws.specs.Families.{NodeHolds, FamilyHolds, IsWhereFor, checkpoints_to}
-use Rattle.world_laws.specs.Invariant.{Holds, IsLeading, process_deed}
+use Rattle.world_laws.specs.Invariant.{IsLeading, process_deed, HoldsOwing}
 use Rattle.world_laws.proofs.Changes.{Changes, filter-is-list-map, made-same, still-born, read-same}
 use Rattle.world_laws.proofs.LeftAlone.{was-there, sender-stays, kind-left-alone, other-node-stays, frames-still-fit, few-still}
 use Rattle.world_laws.proofs.Stays.{IsMore, SameCall, SameWay, node-born, call-stays, way-stays, kind-stays}
+use Rattle.world_laws.specs.Cancels.{CancelIf, Owing, cancel_sight, is_cancel_of, is_held_cancel_of, is_held_of_call, is_of_call}
+use Rattle.world_laws.specs.Wholes.{HasMarks, WholeIf, under_way_at}
+use Rattle.world_laws.proofs.Cancels.{SameCancel}
+use Rattle.world_laws.proofs.Wholes.{whole-left-alone}
 use Rattle.rule_laws.proofs.Nodes.{node-with-directory}
+use Rattle.rule_laws.proofs.CallMoves.{cancel-if-same}
 use Rattle.route_laws.proofs.exits.Arrivals.{is_one_of, Arrives, arrived-known, held-kept, still-there}
 use Rattle.route_laws.proofs.exits.Released.{call_released, deed_released, released_call, call-comes}
-use Rattle.route_laws.proofs.exits.Parcels.{HasParcel, hand-sender, parcel-in-hand}
-use Rattle.route_laws.proofs.exits.Hands.{names, hand_then, parcel-apart, call-in-hand, parcel-was}
+use Rattle.route_laws.proofs.exits.Parcels.{HasParcel, hand-sender, parcel-in-hand, no-object-in}
+use Rattle.route_laws.proofs.exits.Hands.{names, hand_then, parcel-apart, parcel-was, place-still}
 use Rattle.route_laws.proofs.exits.SentOn.{sent_beside, sent-names}
 use Rattle.route_laws.proofs.exits.DeedMoves.{MovesDeeds, family-moved, where-released, comes-released, together-by, comes-by}
+use Rattle.route_laws.proofs.exits.Cancelled.{cancel-comes-home, marks-released, released_cancel}
+use Rattle.route_laws.proofs.exits.Hands.{kept-in-hand}
 
 -- a call that comes into the hand brings no lease
 pub no-lease-released : (which : List Name) (kind : Kind) (c : CallPlace)
@@ -54,8 +62,8 @@ where-sent k c x (kernel.Living alive) h = h
 where-sent k c x (kernel.Ended ending) h = h
 where-sent k c x kernel.Gone h = h
 
-module _ (script : Script) (w : World) (items : List Held) (parcel : Parcel) (b : Beside)
-    (holds : Holds script w (Ending parcel ∷ items) b) (x : ℕ)
+module _ (script : Script) (w : World) (items : List Held) (parcel : Parcel) {owes : Owing} (b : Beside)
+    (holds : HoldsOwing script w (Ending parcel ∷ items) owes b) (x : ℕ)
     (place : place_of (directory_of w) (Proc parcel.parent) ≡ Some (At x)) (low : 2 ≤ x) (d2 : Directory)
     (arrives : Arrives (directory_of w) d2 (names script w items parcel b holds) x) (w' : World)
     (changes : Changes script 1 w w' (with_directory (node_of w 1) d2) [] ((x, frames.ExitTo parcel) ∷ []) []) where
@@ -153,7 +161,8 @@ module _ (script : Script) (w : World) (items : List Held) (parcel : Parcel) (b 
             (λ t s fs. filter (is_about p t s) fs) (λ t s. filter-is-list-map (is_about p t s)) tt (refl, tt) to s);
         held = λ name. sym (ap (λ z. filter (is_item_about p) (held_for z name)) directory-now
             ∙ held-kept dir d2 of x arrives (is_item_about p) name);
-        hand = sym (call-in-hand script w items parcel b holds p);
+        hand = sym (kept-in-hand script w items parcel b holds (is_item_about p) refl);
+        waiters = λ name. refl;
       }
     where
       same : {A : Type 0} (f : Node → A) → f after ≡ f (node_of w 1) → f (node_of w' p) ≡ f (node_of w p)
@@ -166,6 +175,91 @@ module _ (script : Script) (w : World) (items : List Held) (parcel : Parcel) (b 
       (call_sight w' hand_now now p) more (call-now p)
       (call-comes of script p (is_born_in w) (call_sight w before b p) (parcel-apart script w items parcel b holds)
       (holds.calls p low_p high_p))
+
+  -- ---- the withdrawals
+
+  unknown-still : (name : Name) → is_object name ≡ true → is_known dir name ≡ false
+      → is_known (directory_of w') name ≡ false
+  unknown-still name object unknown =
+      ap (λ z. is_known z name) directory-now
+      ∙ ap (λ o. not (is_none o))
+      (place-still script w items parcel b holds x d2 arrives name
+      (no-object-in script w before b holds parcel c sender.call (InHand c) parcel_is name object))
+      ∙ unknown
+
+  cancel-now : (p : ℕ) → SameCancel (released_cancel of (cancel_sight w before b p)) (cancel_sight w' hand_now now p)
+  cancel-now p =
+      record {
+        number = sym (same (λ (m : Node). m.number) refl);
+        pid = sym (same (λ (m : Node). m.pid) refl);
+        caller = sym same-caller;
+        call = refl;
+        cancel = refl;
+        cancels = λ to s. sym (made-same script 1 w w' after [] sends [] changes
+            (λ t s fs. filter (is_cancel_of p) fs) (λ t s. filter-is-list-map (is_cancel_of p)) tt (refl, tt) to s);
+        held_cancels = λ name. sym (held-now (is_held_cancel_of p) name);
+        hand_cancels = sym (kept-in-hand script w items parcel b holds (is_held_cancel_of p) refl);
+        of_call = λ to s. sym (ap (λ k. filter (is_of_call p k to s) (frames_to w' to s)) same-ticket
+            ∙ made-same script 1 w w' after [] sends [] changes
+            (λ t s fs. filter (is_of_call p ticket t s) fs) (λ t s. filter-is-list-map (is_of_call p ticket t s)) tt
+            (refl, tt) to s);
+        held_of_call = λ name. sym (ap (λ k. filter (is_held_of_call p k) (held_for (directory_of w') name)) same-ticket
+            ∙ held-now (is_held_of_call p ticket) name);
+        hand_of_call = sym (ap (λ k. filter (is_held_of_call p k) hand_now) same-ticket
+            ∙ kept-in-hand script w items parcel b holds (is_held_of_call p ticket) refl);
+        nowhere = λ call is may l. record {
+          node = l.node;
+          is = l.is;
+          leaves = ap (λ (z : Directory). is_none (get z.partings l.node)) directory-now
+              ∙ ap (λ partings. is_none (get partings l.node)) arrives.partings_are ∙ l.leaves;
+          unknown = unknown-still (waits_at (node_of w p).pid call)
+              (second-of-both (may_park call) (is_object (waits_at (node_of w p).pid call)) may) l.unknown;
+        };
+      }
+    where
+      same : {A : Type 0} (f : Node → A) → f after ≡ f (node_of w 1) → f (node_of w' p) ≡ f (node_of w p)
+      same f e = read-same script 1 w w' after [] sends [] changes f e p
+
+      same-caller : (node_of w' p).caller ≡ (node_of w p).caller
+      same-caller = same (λ (m : Node). m.caller) refl
+
+      ticket : ℕ
+      ticket = (node_of w p).caller.ticket
+
+      same-ticket : (node_of w' p).caller.ticket ≡ (node_of w p).caller.ticket
+      same-ticket = ap (λ (z : Caller). z.ticket) same-caller
+
+      held-now : (test : Held → Bool) (name : Name)
+          → filter test (held_for (directory_of w') name)
+          ≡ (if is_one_of name of then [] else filter test (held_for dir name))
+      held-now test name =
+          ap (λ z. filter test (held_for z name)) directory-now ∙ held-kept dir d2 of x arrives test name
+
+      second-of-both : (s t : Bool) → (s && t) ≡ true → t ≡ true
+      second-of-both true t e = e
+      second-of-both false t e = absurd (false≢true e)
+
+  cancels-now : (p : ℕ) → 1 ≤ p → p ≤ node_count script → CancelIf p owes (cancel_sight w' hand_now now p)
+  cancels-now p low_p high_p =
+      cancel-if-same p owes (released_cancel of (cancel_sight w before b p)) (cancel_sight w' hand_now now p) refl
+      (cancel-now p)
+      (cancel-comes-home of p owes (cancel_sight w before b p) (parcel-apart script w items parcel b holds)
+      (holds.cancels p low_p high_p))
+
+  whole-now : WholeIf owes w' now
+  whole-now =
+      whole-left-alone w w' b now owes
+      (record {
+        journal_is = changes.journal ∙ append-nil w.journal;
+        lines_are = refl;
+        kernel_is = refl;
+        whole_is = refl;
+        pids_are = λ p. refl;
+        bodies_are = λ name. refl;
+        marks_still = λ p a lives h. subst (λ o. HasMarks (now.call p) o a)
+            (sym (read-same script 1 w w' after [] sends [] changes (λ (m : Node). m.caller.under_way) refl p))
+            (marks-released of (b.call p) (under_way_at w p) a h);
+      }) holds.whole
 
   -- ---- all else
 
@@ -238,12 +332,12 @@ module _ (script : Script) (w : World) (items : List Held) (parcel : Parcel) (b 
       ap (λ (z : Directory). for_kind z.ranges kind) directory-now ∙ ap (λ r. for_kind r kind) arrives.ranges_are
 
   -- It goes on, and what was held for its names is in hand.
-  pub parcel-sent-on : Holds script w' hand_now now
+  pub parcel-sent-on : HoldsOwing script w' hand_now owes now
   parcel-sent-on =
       record {
         shape = changes.shape;
-        history = subst (λ j. HasHistory script j b.kernel b.places) (sym (changes.journal ∙ append-nil w.journal))
-            holds.history;
+        history = holds.history;
+        whole = whole-now;
         leading = subst (λ (z : Directory). IsLeading z) (sym directory-now) arrives.leads;
         pids = holds.pids;
         nodes = nodes-now;
@@ -251,6 +345,7 @@ module _ (script : Script) (w : World) (items : List Held) (parcel : Parcel) (b 
             (away, tt);
         names = sent-names script w items parcel b holds x place low d2 arrives w' changes;
         calls = calls-now;
+        cancels = cancels-now;
         ways = λ q low_q high_q. way-stays script b.pids q (knows_parent script w b.pids q)
             (knows_parent script w' b.pids q) (way_sight w q) (way_sight w' q)
             (λ e. ap (λ z. is_known z (Proc (b.pids (forker script q)))) directory-now

@@ -22,12 +22,13 @@ use Rattle.world_laws.specs.Sights.{node_of, frames_to, directory_of, stage_of, 
 use Rattle.world_laws.specs.Plays.{Hold, Has, Lacks, Done, PlayStep, Comes, IsNeeded, plays, steps_of, steps_if, begin, is_has, is_there, is_checkpoint_of, has_any, believed, placed_in, news}
 use Rattle.world_laws.specs.Names.{NameSight, name_sight, NameHolds, OneIf, IsBringer, PlaysTo, RangeStep, is_stream_of, held_as, held_at, comes_to, range_steps_of, forker, is_maker, belief_of, maker_tells}
 use Rattle.world_laws.specs.Ways.{under_way_of, HasSender}
-use Rattle.world_laws.specs.Invariant.{Holds}
+use Rattle.world_laws.specs.Invariant.{HoldsOwing}
 use Rattle.world_laws.proofs.Changes.{Changes, sent, frames_if, filter-is-list-map, flat_map-is-list-map, made-after, made-same, stayed, still-born, read-same}
 use Rattle.world_laws.proofs.Heads.{kept-of-sent}
 use Rattle.world_laws.proofs.Sends.{frame_if}
 use Rattle.world_laws.proofs.Named.{name-cases, same-name, other-name}
 use Rattle.world_laws.proofs.Stays.{IsMore, SameName, name-stays}
+use Rattle.world_laws.specs.Cancels.{Owing}
 use Rattle.route_laws.proofs.hand.Forwards.{name-sent-for, steps_as, ranges_as}
 use Rattle.rule_laws.proofs.ends.Taken.{fewer-none, play-without, plays-without, begin-without}
 use Rattle.rule_laws.proofs.ends.Releases.{checkpoints-bring}
@@ -36,6 +37,8 @@ use Rattle.route_laws.proofs.exits.Released.{call_released, deed_released, relea
 use Rattle.route_laws.proofs.exits.Parcels.{HasParcel, hand-sender, parcel-in-hand, is-used-there, in-parcel-made}
 use Rattle.route_laws.proofs.exits.Hands.{names, hand_then, parcel-apart, held_with, seen-held, in-hand-then, none-in-hand, kept-then, none-kept-then, place-then, place-still}
 use Rattle.route_laws.proofs.exits.Onward.{is_done, done-together, lacks-is, plays-released, ranges-released, GoesOnward, gone_onward, name-gone-onward}
+use Rattle.route_laws.proofs.exits.Cancelled.{cancel_released}
+use Rattle.entry_laws.specs.Entering.{is_used_name}
 
 and-false : (t : Bool) → (t && false) ≡ false
 and-false true = refl
@@ -48,7 +51,8 @@ has-is Done h = absurd (false≢true h)
 
 -- ---- a name whose deed is in the leader's hand
 
-module _ (script : Script) (w : World) (hands : List Held) (b : Beside) (holds : Holds script w hands b) (name : Name)
+module _ (script : Script) (w : World) (hands : List Held) {owes : Owing} (b : Beside)
+    (holds : HoldsOwing script w hands owes b) (name : Name)
     (c : ℕ) (deed : b.deed name ≡ InHand c) where
   abbrev x : NameSight
   x = name_sight script w hands b name
@@ -80,22 +84,23 @@ module _ (script : Script) (w : World) (hands : List Held) (b : Beside) (holds :
         last = played.last;
         plays = played.plays;
         agrees = play-without (x.begins q) played.last (x.steps q)
-            (plays-without b.call name (frames_to w q 1) (hand-not-brought q 1))
+            (plays-without (is_used_name b.kernel name) b.call name (frames_to w q 1) (hand-not-brought q 1))
             (ap (λ o. is_has (begin (stage_of w q) (is_some o) (comes_to script w name q))) (none-held q)
             ∙ ap (λ t. is_has (begin (stage_of w q) false t)) (comes-not q)
             ∙ begin-without (stage_of w q)) played.plays;
       }
 
 -- what is made of the one frame that is sent
-sent-steps : (call : ℕ → CallPlace) (name : Name) (f : Frame) (ss : List PlayStep) → steps_of call name f ≡ ss
-    → (t : Bool) → plays call name (frames_if true (frame_if t f ++ [])) ≡ (if t then ss else [])
-sent-steps call name f ss e true = append-nil (steps_of call name f) ∙ e
-sent-steps call name f ss e false = refl
+sent-steps : (used : Bool) (call : ℕ → CallPlace) (name : Name) (f : Frame) (ss : List PlayStep)
+    → steps_of used call name f ≡ ss → (t : Bool)
+    → plays used call name (frames_if true (frame_if t f ++ [])) ≡ (if t then ss else [])
+sent-steps used call name f ss e true = append-nil (steps_of used call name f) ∙ e
+sent-steps used call name f ss e false = refl
 
 -- ---- the event
 
-module _ (script : Script) (w : World) (items : List Held) (parcel : Parcel) (b : Beside)
-    (holds : Holds script w (Ending parcel ∷ items) b) (x : ℕ)
+module _ (script : Script) (w : World) (items : List Held) (parcel : Parcel) {owes : Owing} (b : Beside)
+    (holds : HoldsOwing script w (Ending parcel ∷ items) owes b) (x : ℕ)
     (place : place_of (directory_of w) (Proc parcel.parent) ≡ Some (At x)) (low : 2 ≤ x) (d2 : Directory)
     (arrives : Arrives (directory_of w) d2 (names script w items parcel b holds) x) (w' : World)
     (changes : Changes script 1 w w' (with_directory (node_of w 1) d2) [] ((x, frames.ExitTo parcel) ∷ []) []) where
@@ -137,7 +142,7 @@ module _ (script : Script) (w : World) (items : List Held) (parcel : Parcel) (b 
 
   -- what is beside the world then
   abbrev pub sent_beside : Beside
-  sent_beside = record b { deed = deeds_now; call = calls_now }
+  sent_beside = record b { deed = deeds_now; call = calls_now; cancel = λ p. cancel_released of (b.cancel p) }
 
   away : x ≢ 1
   away e = omega (arith, e, low)
@@ -182,21 +187,21 @@ module _ (script : Script) (w : World) (items : List Held) (parcel : Parcel) (b 
     held-now q =
         sym (read-same script 1 w w' after [] sends [] changes (λ (m : Node). get_named m.deeds name) refl q)
 
-    steps-now : (ss : List PlayStep) → steps_of b.call name frame ≡ ss → (q : ℕ)
-        → s.steps q ++ (if nat_eq q x then ss else []) ≡ plays calls_now name (frames_to w' q 1)
+    steps-now : (ss : List PlayStep) → steps_of s.used b.call name frame ≡ ss → (q : ℕ)
+        → s.steps q ++ (if nat_eq q x then ss else []) ≡ plays s.used calls_now name (frames_to w' q 1)
     steps-now ss e q =
-        sym (plays-released of b.call name (frames_to w' q 1)
-        ∙ made-after script 1 w w' after [] sends [] changes (λ t s fs. plays b.call name fs)
+        sym (plays-released of s.used b.call name (frames_to w' q 1)
+        ∙ made-after script 1 w w' after [] sends [] changes (λ t r fs. plays s.used b.call name fs)
         (λ t s. flat_map-is-list-map _) q 1
-        ∙ (λ i. stayed script 1 w w' after [] sends [] changes (λ t s fs. plays b.call name fs)
+        ∙ (λ i. stayed script 1 w w' after [] sends [] changes (λ t r fs. plays s.used b.call name fs)
         (λ t s. flat_map-is-list-map _) tt q 1 i
-        ++ sent-steps b.call name frame ss e (nat_eq q x) i))
+        ++ sent-steps s.used b.call name frame ss e (nat_eq q x) i))
 
-    ranges-now : (q : ℕ) → s.ranges q ≡ flat_map (range_steps_of calls_now name) (frames_to w' q 1)
+    ranges-now : (q : ℕ) → s.ranges q ≡ flat_map (range_steps_of s.used calls_now name) (frames_to w' q 1)
     ranges-now q =
-        sym (ranges-released of b.call name (frames_to w' q 1)
+        sym (ranges-released of s.used b.call name (frames_to w' q 1)
         ∙ made-same script 1 w w' after [] sends [] changes
-        (λ t s fs. flat_map (range_steps_of b.call name) fs) (λ t s. flat_map-is-list-map _) tt (refl, tt) q 1)
+        (λ t r fs. flat_map (range_steps_of s.used b.call name) fs) (λ t s. flat_map-is-list-map _) tt (refl, tt) q 1)
 
     placed-now : (q : ℕ) → s.placed q ≡ placed_in name (frames_to w' 1 q)
     placed-now q =
@@ -244,6 +249,7 @@ module _ (script : Script) (w : World) (items : List Held) (parcel : Parcel) (b 
             maker = sym maker-same;
             stays = λ q. sym (stays-same q);
             used = refl;
+            part = refl;
             body = refl;
             deed = sym (ap (λ t. if t then InExitTo c x else deed_released script b.pids of (b.deed name)) e);
             held = held-now;
@@ -282,8 +288,8 @@ module _ (script : Script) (w : World) (items : List Held) (parcel : Parcel) (b 
       no-deed false false = refl
 
       seen-with : (steps : ℕ → List PlayStep) (ranges : ℕ → List RangeStep)
-          → ((q : ℕ) → steps q ≡ plays calls_now name (frames_to w' q 1))
-          → ((q : ℕ) → ranges q ≡ flat_map (range_steps_of calls_now name) (frames_to w' q 1))
+          → ((q : ℕ) → steps q ≡ plays s.used calls_now name (frames_to w' q 1))
+          → ((q : ℕ) → ranges q ≡ flat_map (range_steps_of s.used calls_now name) (frames_to w' q 1))
           → SameName (record y { steps = steps; ranges = ranges }) (name_sight script w' hand_now sent_beside name)
       seen-with steps ranges steps_are ranges_are =
           record {
@@ -292,6 +298,7 @@ module _ (script : Script) (w : World) (items : List Held) (parcel : Parcel) (b 
             maker = sym maker-same;
             stays = λ q. sym (stays-same q);
             used = refl;
+            part = refl;
             body = refl;
             deed = sym (ap (λ t. if t then InExitTo c x else deed_released script b.pids of (b.deed name)) e);
             held = held-now;
@@ -309,7 +316,7 @@ module _ (script : Script) (w : World) (items : List Held) (parcel : Parcel) (b 
           }
 
       steps-of-frame : (t : Bool) → is_same_name name (Proc parcel.parent) ≡ t
-          → steps_of b.call name frame ≡ steps_if t IsNeeded
+          → steps_of s.used b.call name frame ≡ steps_if t IsNeeded
       steps-of-frame t g =
           ap (λ u. if u then Comes ∷ [] else steps_if (is_same_name name (Proc parcel.parent)) IsNeeded) e
           ∙ ap (λ u. steps_if u IsNeeded) g
@@ -322,7 +329,8 @@ module _ (script : Script) (w : World) (items : List Held) (parcel : Parcel) (b 
           (λ q. ap (λ ss. s.steps q ++ ss) (needed-is (nat_eq q x))
           ∙ steps-now (IsNeeded ∷ []) (steps-of-frame true (same-name name (Proc parcel.parent) is)) q)
           (λ q. append-nil (s.ranges q) ∙ ranges-now q))
-          (name-sent-for script b.pids (is_born_in w) name y released x low true (ap (place_of dir) is ∙ place))
+          (name-sent-for script b.pids (is_born_in w) name y released x low true false (ap (place_of dir) is ∙ place)
+          (λ lasts. absurd (false≢true lasts)))
         where
           needed-is : (t : Bool) → steps_if t IsNeeded ≡ (if t then IsNeeded ∷ [] else [])
           needed-is true = refl
@@ -340,7 +348,8 @@ module _ (script : Script) (w : World) (items : List Held) (parcel : Parcel) (b 
 
   -- the parent will be at the node
   parent-plays : PlaysTo (begin (stage_of w x) (is_some (held_at w (Proc parcel.parent) x))
-      (comes_to script w (Proc parcel.parent) x)) (plays b.call (Proc parcel.parent) (frames_to w x 1)) true
+      (comes_to script w (Proc parcel.parent) x))
+      (plays (is_used_name b.kernel (Proc parcel.parent)) b.call (Proc parcel.parent) (frames_to w x 1)) true
   parent-plays =
       let p : NameSight = name_sight script w before b (Proc parcel.parent)
       in let of_parent : NameHolds script b.pids (is_born_in w) (Proc parcel.parent) p =
@@ -362,7 +371,8 @@ module _ (script : Script) (w : World) (items : List Held) (parcel : Parcel) (b 
         others = plays_there;
         lacks = here.plays
             ∙ ap Some (lacks-is here.last here.agrees
-            (done-together b.call name (Proc parcel.parent) (stage_of w x) (is_some (held_at w name x))
+            (done-together (is_used_name b.kernel name) (is_used_name b.kernel (Proc parcel.parent)) b.call name
+            (Proc parcel.parent) (stage_of w x) (is_some (held_at w name x))
             (comes_to script w name x) (is_some (held_at w (Proc parcel.parent) x))
             (comes_to script w (Proc parcel.parent) x) (frames_to w x 1) here.last parent-plays.last here.plays
             parent-plays.plays

@@ -17,7 +17,7 @@ use Rattle.kernel_model.specs.Row.{Alive, lists}
 use Rattle.entry_laws.specs.Entering.{IsChildIn}
 use Rattle.node_model.specs.Kinds.{is_same_name}
 use Rattle.node_model.specs.Directory.{has_deed_of}
-use Rattle.node_model.specs.Bodies.{Body, body_in}
+use Rattle.node_model.specs.Bodies.{Body}
 use Rattle.world_model.specs.Lives.{is_new_row}
 use Rattle.world_model.specs.Census.{brings}
 use Rattle.world_model.specs.World.{World}
@@ -27,11 +27,12 @@ use Rattle.world_laws.specs.Plays.{Hold, Has, Comes, IsNeeded, steps_if, play, p
 use Rattle.world_laws.specs.Names.{NameSight, name_sight, NameHolds, HasDeed, OneIf, OnlyOne, IsBringer, IsExitOf, PlaysTo, may_be_at, is_stream_of, held_at, comes_to, forker, belief_of}
 use Rattle.world_laws.specs.Ways.{IsParcelOf, sent as sent_in, under_way_of, HasSender}
 use Rattle.world_laws.specs.Families.{FamilyHolds, IsWhereFor, IsNewAt, checkpoints_to}
-use Rattle.world_laws.specs.Invariant.{Holds, process_deed}
+use Rattle.world_laws.specs.Invariant.{process_deed, HoldsOwing}
 use Rattle.world_laws.proofs.Heads.{head-is, head-there, head-from-another}
 use Rattle.world_laws.proofs.Named.{same-name}
 use Rattle.world_laws.proofs.NameFacts.{IsHeldAt, held-there, begin-has, has_left, play-needs}
 use Rattle.world_laws.proofs.Steps.{Heads}
+use Rattle.world_laws.specs.Cancels.{Owing}
 use Rattle.rule_laws.proofs.ends.KeptItems.{kept-is-there, not-left-out, has-its-own}
 use Rattle.rule_laws.proofs.ends.Taken.{fewer-none}
 use Rattle.rule_laws.proofs.ends.Releases.{checkpoints-bring}
@@ -120,7 +121,8 @@ sent-here forks_it pids name body x parcel (InTable g) counts is = absurd (false
 sent-here forks_it pids name body x parcel (InKept g) counts is = absurd (false≢true counts)
 sent-here forks_it pids name body x parcel (InHand g) counts is = absurd (false≢true counts)
 
-module _ (script : Script) (w : World) (b : Beside) (holds : Holds script w [] b) (x : ℕ) (parcel : Parcel)
+module _ (script : Script) (w : World) {owes : Owing} (b : Beside) (holds : HoldsOwing script w [] owes b) (x : ℕ)
+    (parcel : Parcel)
     (rest : List Frame) (h : Heads script w x 1 (frames.ExitTo parcel) rest) where
   abbrev frame : Frame
   frame = frames.ExitTo parcel
@@ -149,7 +151,7 @@ module _ (script : Script) (w : World) (b : Beside) (holds : Holds script w [] b
 
   -- a name of the parcel is on its way in it, and no other frame behind it brings the name
   record ComesFirst (name : Name) : Type 0 where
-    sent : IsSentIn b.pids name (body_in b.kernel name) (b.deed name) x parcel
+    sent : IsSentIn b.pids name (b.body name) (b.deed name) x parcel
     alone : filter (brings name) rest ≡ []
 
   brought-is : (name : Name)
@@ -161,15 +163,15 @@ module _ (script : Script) (w : World) (b : Beside) (holds : Holds script w [] b
   comes-first name e =
       let known : NameHolds script b.pids (is_born_in w) name (name_sight script w [] b name) = holds.names name
       in let first : IsFirst (is_stream_of (forker script) (b.deed name) x 1)
-      (IsBringer b.pids name (body_in b.kernel name) (b.deed name)) frame (filter (brings name) rest) =
+      (IsBringer b.pids name (b.body name) (b.deed name)) frame (filter (brings name) rest) =
       one-first (is_stream_of (forker script) (b.deed name) x 1)
-      (IsBringer b.pids name (body_in b.kernel name) (b.deed name)) frame (filter (brings name) rest)
+      (IsBringer b.pids name (b.body name) (b.deed name)) frame (filter (brings name) rest)
       (subst (λ fs. OneIf (is_stream_of (forker script) (b.deed name) x 1)
-      (IsBringer b.pids name (body_in b.kernel name) (b.deed name)) fs)
+      (IsBringer b.pids name (b.body name) (b.deed name)) fs)
       (brought-is name
       ∙ ap (λ t. cond t (frame ∷ filter (brings name) rest) (filter (brings name) rest)) e) (known.streams x 1))
       in record {
-        sent = sent-here (forker script) b.pids name (body_in b.kernel name) x parcel (b.deed name) first.counts
+        sent = sent-here (forker script) b.pids name (b.body name) x parcel (b.deed name) first.counts
             first.is;
         alone = first.alone;
       }
@@ -200,15 +202,15 @@ module _ (script : Script) (w : World) (b : Beside) (holds : Holds script w [] b
       known : NameHolds script b.pids (is_born_in w) name (name_sight script w [] b name)
       known = holds.names name
 
-      only-one : OnlyOne (IsExitOf name (body_in b.kernel name) (b.pids c)) (filter (brings name) (frames_to w x 1))
+      only-one : OnlyOne (IsExitOf name (b.body name) (b.pids c)) (filter (brings name) (frames_to w x 1))
       only-one =
-          subst (λ t. OneIf (t && true) (IsExitOf name (body_in b.kernel name) (b.pids c))
+          subst (λ t. OneIf (t && true) (IsExitOf name (b.body name) (b.pids c))
           (filter (brings name) (frames_to w x 1))) (eq-eqb x x refl)
-          (subst (λ d. OneIf (is_stream_of (forker script) d x 1) (IsBringer b.pids name (body_in b.kernel name) d)
+          (subst (λ d. OneIf (is_stream_of (forker script) d x 1) (IsBringer b.pids name (b.body name) d)
           (filter (brings name) (frames_to w x 1))) deed (known.streams x 1))
 
       another : has_deed_of name parcel ≡ false
-          → IsExitOf name (body_in b.kernel name) (b.pids c) only-one.one → ⊥
+          → IsExitOf name (b.body name) (b.pids c) only-one.one → ⊥
       another g is =
           let behind : filter (brings name) rest ≡ frames.ExitTo is.parcel ∷ [] =
           sym (brought-is name
@@ -246,7 +248,7 @@ module _ (script : Script) (w : World) (b : Beside) (holds : Holds script w [] b
             let first = comes-first name e
             in let sent = first.sent
             in let has = sent.has
-            in subst (λ g. HasDeed name (body_in b.kernel name) (b.pids g) parcel) (same-node sent.node has.of_process)
+            in subst (λ g. HasDeed name (b.body name) (b.pids g) parcel) (same-node sent.node has.of_process)
             sent.has;
         all = in-this;
       }
@@ -365,21 +367,21 @@ module _ (script : Script) (w : World) (b : Beside) (holds : Holds script w [] b
   pub record ParentPlays : Type 0 where
     pub last : Hold
     pub begins : p.begins x ≡ Has
-    pub plays_on : play Has (plays b.call parent rest) ≡ Some last
+    pub plays_on : play Has (plays p.used b.call parent rest) ≡ Some last
     pub agrees : is_has last ≡ is_there x (belief_of p)
 
-  steps-first : p.steps x ≡ IsNeeded ∷ plays b.call parent rest
+  steps-first : p.steps x ≡ IsNeeded ∷ plays p.used b.call parent rest
   steps-first =
-      ap (plays b.call parent) stream-is
+      ap (plays p.used b.call parent) stream-is
       ∙ ap (λ t. (if t then Comes ∷ [] else steps_if (is_same_name parent (Proc parcel.parent)) IsNeeded)
-      ++ plays b.call parent rest) parent-not-in
-      ∙ ap (λ t. steps_if t IsNeeded ++ plays b.call parent rest) (same-name parent (Proc parcel.parent) refl)
+      ++ plays p.used b.call parent rest) parent-not-in
+      ∙ ap (λ t. steps_if t IsNeeded ++ plays p.used b.call parent rest) (same-name parent (Proc parcel.parent) refl)
 
   -- so it does
   pub parent-plays : ParentPlays
   parent-plays =
       let played : PlaysTo (p.begins x) (p.steps x) (is_there x (belief_of p)) = of-parent.plays x above-leader
-      in let needs = play-needs (p.begins x) played.last (plays b.call parent rest)
+      in let needs = play-needs (p.begins x) played.last (plays p.used b.call parent rest)
       (ap (play (p.begins x)) (sym steps-first) ∙ played.plays)
       in record { last = played.last; begins = needs.0; plays_on = needs.1; agrees = played.agrees }
 
@@ -390,8 +392,8 @@ module _ (script : Script) (w : World) (b : Beside) (holds : Holds script w [] b
       parent-plays.begins
       in let held = some-true (held_at w parent x)
       (or-first (is_some (held_at w parent x)) (comes_to script w parent x) (comes-not (b.deed parent) refl) begun.1)
-      in let at : IsHeldAt (b.deed parent) (body_in b.kernel parent) x held.0 =
-      held-there (b.deed parent) (body_in b.kernel parent) x held.0 (sym (of-parent.tables x) ∙ held.1)
+      in let at : IsHeldAt (b.deed parent) (b.body parent) x held.0 =
+      held-there (b.deed parent) (b.body parent) x held.0 (sym (of-parent.tables x) ∙ held.1)
       in at.deed_is
 
   -- and it hasn't left

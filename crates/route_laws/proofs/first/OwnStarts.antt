@@ -1,6 +1,6 @@
 -- Node 1 starts a call of its process that isn't on the process itself: it is served where node 1 holds the name, goes
 -- to the owner of its cache, or is routed by the leader.
-use Rattle.std.proofs.Common.{◌≡◌, ◌≢◌, ℕ, ◌+◌, ◌≤◌, Bool, true, false, not, if◌then◌else◌, [], ◌∷◌, Contains, Option, Some, None, is_some, refl, ap, sym, subst, ◌∙◌, inl, inr, arith, All}
+use Rattle.std.proofs.Common.{◌≡◌, ◌≢◌, ℕ, ◌+◌, ◌≤◌, Bool, true, false, not, if◌then◌else◌, [], ◌∷◌, Contains, Option, Some, None, refl, ap, sym, subst, ◌∙◌, inr, arith, All}
 use Rattle.std.proofs.lemmas.Bool.{eq-eqb, false≢true, ne_eqb}
 use Rattle.std.proofs.lemmas.List.Elements.{All-cons, All-filter, All-weaker, All-contains, All-contains_itself}
 use Rattle.std.proofs.lemmas.Map.Views.{Contains-from_lookup}
@@ -11,44 +11,43 @@ use Rattle.pico_base.specs.declared.numbers.Name.{Name}
 use Rattle.pico_base.specs.declared.script.Event.TheVariants as events
 use Rattle.pico_base.specs.declared.script.Script.{Script}
 use Rattle.pico_base.specs.Home.{home_of}
+use Rattle.rpc_frame.specs.declared.asked.Asked.{Asked}
 use Rattle.rpc_frame.specs.declared.frame.Frame.TheVariants as frames
+use Rattle.kernel_laws.proofs.Plain.{of-some}
 use Rattle.kernel_model.specs.Script.{IsSoundScript}
-use Rattle.node_model.specs.Bodies.{Body, body_in}
+use Rattle.waiting_model.specs.Calls.{may_park}
 use Rattle.node_model.specs.Cache.{Cache, forget, look, look_by, owner_in}
 use Rattle.node_model.specs.declared.held.Held.TheVariants.{Request}
 use Rattle.node_model.specs.Caller.{start_call}
-use Rattle.node_model.specs.Kinds.{get_named, is_same_name}
-use Rattle.node_model.specs.Serving.{has_read}
-use Rattle.node_model.specs.Watches.{Watches}
+use Rattle.node_model.specs.Kinds.{is_same_name}
 use Rattle.world_model.specs.Calls.{is_for_others}
 use Rattle.world_model.specs.Node.{Node, asked_here, can_run, holds as node_holds}
 use Rattle.world_model.specs.Routes.{route_call}
 use Rattle.world_model.specs.Serving.{serve_asked}
 use Rattle.world_model.specs.Starting.{ask, request, run, start_by}
-use Rattle.world_model.specs.Step.{Step, send, step_to}
+use Rattle.world_model.specs.Step.{send, step_to}
 use Rattle.world_model.specs.World.{World, node_count, world_after}
-use Rattle.world_laws.specs.Places.{Beside, Idle, InRequest, IsInHand, call_in}
-use Rattle.world_laws.specs.Sights.{is_born_in, node_of}
-use Rattle.world_laws.specs.Names.{NameHolds, name_sight}
-use Rattle.world_laws.specs.Callers.{may_be_in}
+use Rattle.entry_laws.proofs.Names.{same-name}
+use Rattle.world_laws.specs.Places.{Beside, InRequest, InTable, IsInHand, call_in}
+use Rattle.world_laws.specs.Sights.{is_born_in, is_born_stage, node_of}
+use Rattle.world_laws.specs.Callers.{is_on, may_be_in}
 use Rattle.world_laws.specs.Families.{NodeHolds}
 use Rattle.world_laws.specs.Invariant.{Holds}
-use Rattle.world_laws.proofs.NameFacts.{IsHeldAt, held-there}
 use Rattle.world_laws.proofs.Named.{same-name-is}
 use Rattle.world_laws.proofs.Steps.{run-steps}
 use Rattle.rule_laws.proofs.Suggestions.{born-in-range}
 use Rattle.rule_laws.proofs.own.Outs.{out-keeps}
-use Rattle.rule_laws.proofs.own.Moved.{AfterRun, twice-in}
+use Rattle.rule_laws.proofs.own.Moved.{AfterRun, moved-alone, moved-twice}
 use Rattle.rule_laws.proofs.own.OwnCases.{Keeps}
 use Rattle.rule_laws.proofs.own.Runs.{Starts, run-is}
-use Rattle.route_laws.proofs.hand.Asks.{NeverWaits}
+use Rattle.route_laws.specs.Ready.{HasFewNodes, IsReady}
 use Rattle.route_laws.proofs.hand.ReadRoutes.{HasRoute}
-use Rattle.route_laws.proofs.hand.Served.{IsAtLeader}
-use Rattle.route_laws.specs.Ready.{IsReady}
-use Rattle.route_laws.specs.Watching.{WatchesAsOwner}
-use Rattle.route_laws.proofs.first.OwnRoutes.{own-has-route}
-use Rattle.route_laws.proofs.first.OwnServes.{noted_if, own_served_beside, own_served_reply, own_served_step, own-is-served, own-keys-stay, own-serve-rule, own-served-holds}
-use Rattle.route_laws.proofs.first.Starts.{HasOwners, start-in-hand, started_asked, started_beside, started-asked-here, started-here}
+use Rattle.route_laws.proofs.hand.HandRoutes.{has-route}
+use Rattle.route_laws.proofs.sent.NoCheckpoint.{in-table}
+use Rattle.route_laws.proofs.sent.Requests.{place-at-leader}
+use Rattle.route_laws.proofs.served.Noting.{ServesAndNotes, serves-at-leader}
+use Rattle.route_laws.proofs.first.Calm.{OwesAs, own-route-calm, own-strikes-not, served-calm}
+use Rattle.route_laws.proofs.first.Starts.{HasOwners, calm-keeps, somewhere, start-in-hand, started_asked, started_beside, started-asked-here, started-asks, started-here}
 
 -- ---- the cache
 
@@ -60,27 +59,9 @@ module _ (P : Name × ℕ → Type 0) (cache : Cache) (name : Name) (all : All P
       (All-contains P cache (name, owner) all (Contains-from_lookup same-name-is name owner cache is))
       (All-filter (λ e. not (is_same_name name e.0)) P cache all)
 
--- ---- what node 1 holds
-
--- a deed that node 1 holds is in its table, with the kernel's body
-pub held-at-leader : (script : Script) (w : World) (b : Beside) (name : Name) → Holds script w [] b
-    → node_holds (node_of w 1) name ≡ true → IsAtLeader w b name
-held-at-leader script w b name holds h = by-deed (get_named (node_of w 1).deeds name) refl h
-  where
-    its : NameHolds script b.pids (is_born_in w) name (name_sight script w [] b name)
-    its = holds.names name
-
-    by-deed : (o : Option Body) → get_named (node_of w 1).deeds name ≡ o
-        → is_some (get_named (node_of w 1).deeds name) ≡ true → IsAtLeader w b name
-    by-deed None is some = absurd (false≢true (sym (ap is_some is) ∙ some))
-    by-deed (Some v) is some =
-        let at : IsHeldAt (b.deed name) (body_in b.kernel name) 1 v =
-        held-there (b.deed name) (body_in b.kernel name) 1 v (sym (its.tables 1) ∙ is)
-        in record { deed_is = at.deed_is; held = is ∙ ap Some at.body_is }
-
 module _ (script : Script) (sound : IsSoundScript script) (w : World) (b : Beside) (holds : Holds script w [] b)
     (high : 1 ≤ node_count script) (can : can_run (node_of w 1) ≡ true) (s : Starts script w b 1)
-    (never : NeverWaits script) (ready : IsReady (node_of w 1)) where
+    (few : HasFewNodes script) (ready : IsReady (node_of w 1)) where
   abbrev n : Node
   n = node_of w 1
 
@@ -93,6 +74,9 @@ module _ (script : Script) (sound : IsSoundScript script) (w : World) (b : Besid
   abbrev started : Cache → Node
   started cache = record n { caller = start_call n.caller call; cache = cache }
 
+  abbrev Runs : Type 0
+  Runs = Keeps script w (events.Run 1) (AfterRun b 1)
+
   node-was : NodeHolds script b.pids (is_born_in w) 1 n
   node-was = holds.nodes 1 low high
 
@@ -102,11 +86,25 @@ module _ (script : Script) (sound : IsSoundScript script) (w : World) (b : Besid
       run-is script sound w b holds 1 low high can s
       ∙ ap (start_by script (step_to (started n.cache)) call s.row) is
 
-  -- ---- routed by the leader
+  -- ---- in hand
 
   module _ (cache : Cache) (owners : HasOwners w 1 cache) (others : is_for_others (home_of n.pid call) ≡ true) where
-    asks-itself : ask script (step_to (started cache)) call
-        ≡ route_call script (step_to (started cache)) (started_asked script w b holds 1 low high s cache owners others)
+    abbrev asked : Asked
+    asked = started_asked script w b holds 1 low high s cache owners others
+
+    abbrev in-hand : Beside
+    in-hand = started_beside script w b holds 1 low high s cache owners others
+
+    abbrev next : World
+    next = world_after w 1 (step_to (started cache))
+
+    holds-in-hand : Holds script next (Request asked ∷ []) in-hand
+    holds-in-hand = start-in-hand script w b holds 1 low high s cache owners others
+
+    here : node_of next 1 ≡ started cache
+    here = started-here script w b holds 1 low high s cache owners others
+
+    asks-itself : ask script (step_to (started cache)) call ≡ route_call script (step_to (started cache)) asked
     asks-itself =
         ap (λ t. if t then route_call script (step_to (started cache)) (asked_here (started cache) call)
         else Some (send (step_to (started cache)) 1 (frames.Ask (n.caller.ticket + 1) n.pid call)))
@@ -114,9 +112,9 @@ module _ (script : Script) (sound : IsSoundScript script) (w : World) (b : Besid
         ∙ ap (route_call script (step_to (started cache)))
         (started-asked-here script w b holds 1 low high s cache owners others)
 
-    ready-now : IsReady (node_of (world_after w 1 (step_to (started cache))) 1)
+    ready-now : IsReady (node_of next 1)
     ready-now =
-        subst (λ (m : Node). IsReady m) (sym (started-here script w b holds 1 low high s cache owners others))
+        subst (λ (m : Node). IsReady m) (sym here)
         (record {
           watches = ready.watches;
           queues = ready.queues;
@@ -125,27 +123,48 @@ module _ (script : Script) (sound : IsSoundScript script) (w : World) (b : Besid
           numbers = ready.numbers;
         })
 
-    -- the call is in hand, and has a route
-    routed : run script n ≡ ask script (step_to (started cache)) call → Keeps script w (events.Run 1) (AfterRun b 1)
+    -- the call has a route
+    routed : run script n ≡ ask script (step_to (started cache)) call → Runs
     routed rule =
-        let r : HasRoute script w (step_to (started cache))
-        (started_asked script w b holds 1 low high s cache owners others) []
-        (started_beside script w b holds 1 low high s cache owners others) =
-        own-has-route script w (step_to (started cache)) (n.caller.ticket + 1) n.pid call []
-        (started_beside script w b holds 1 low high s cache owners others)
-        (start-in-hand script w b holds 1 low high s cache owners others) high never ready-now
+        let r : HasRoute script w (step_to (started cache)) asked [] in-hand =
+        has-route script w (step_to (started cache)) asked [] in-hand holds-in-hand
+        (started-asks script w b holds 1 low high s cache owners others) few ready-now
         in record {
           beside = r.beside;
           keeps = record {
             next = world_after w 1 r.keeps.next;
             is_step = run-steps script w 1 r.keeps.next holds.shape low high (rule ∙ asks-itself ∙ r.keeps.is_route);
-            holds = r.keeps.holds;
+            holds = calm-keeps script w 1 r.keeps.next r.beside r.keeps.holds
+                (own-route-calm script (step_to (started cache)) r.keeps.next asked refl r.keeps.is_route);
           };
-          after = inr (record {
-            place = r.place;
-            calls = λ y. twice-in b.call 1 IsInHand r.place y ∙ ap (λ c. c y) (sym r.calls);
-            fits = tt;
-          });
+          after = inr (somewhere b.call r.beside.call 1 (moved-twice b.call r.beside.call 1 IsInHand _ r.moved));
+        }
+
+    -- or is served
+    served : (name : Name) → home_of n.pid call ≡ homes.At name → b.deed name ≡ InTable 1
+        → run script n ≡ serve_asked script (step_to (started cache)) name asked → Runs
+    served name home deed rule =
+        let r : ServesAndNotes script w 1 (step_to (started cache)) asked [] in-hand name =
+        serves-at-leader script w (step_to (started cache)) asked [] in-hand holds-in-hand
+        (record {
+          low = low;
+          high = high;
+          born = ap (λ (m : Node). is_born_stage m.stage) here ∙ ap is_born_stage s.stage;
+        })
+        (started-asks script w b holds 1 low high s cache owners others) name home deed few ready.watches
+        (place-at-leader script next (Request asked ∷ []) in-hand holds-in-hand name deed)
+        in record {
+          beside = r.beside;
+          keeps = record {
+            next = world_after w 1 r.next;
+            is_step = run-steps script w 1 r.next holds.shape low high (rule ∙ r.is);
+            holds = calm-keeps script w 1 r.next r.beside r.holds
+                (of-some (OwesAs (step_to (started cache)))
+                (serve_asked script (step_to (started cache)) name asked) r.next
+                (served-calm script (step_to (started cache)) asked name
+                (own-strikes-not (started cache) name call (ap (is_on name) home ∙ same-name name))) r.is);
+          };
+          after = inr (somewhere b.call r.beside.call 1 (moved-twice b.call r.beside.call 1 IsInHand _ r.moved));
         }
 
   -- Node 1 starts a call on a key.
@@ -166,71 +185,30 @@ module _ (script : Script) (sound : IsSoundScript script) (w : World) (b : Besid
     abbrev looked-at : Cache
     looked-at = look n.cache name
 
-    rule-at : (t : Bool) → node_holds n name ≡ t
+    -- one that may have to wait isn't looked for in the cache
+    rule-at : (held parks : Bool) → node_holds n name ≡ held → may_park call ≡ parks
         → run script n
-        ≡ (if t then serve_asked script (step_to (started n.cache)) name (asked_here (started n.cache) call)
+        ≡ (if held then serve_asked script (step_to (started n.cache)) name (asked_here (started n.cache) call)
+        else if parks then ask script (step_to (started n.cache)) call
         else request script (step_to (started looked-at)) call (owner_in n.cache name))
-    rule-at t e =
+    rule-at held parks e f =
         rule-by (homes.At name) is
-        ∙ ap (λ u. if u then serve_asked script (step_to (started n.cache)) name (asked_here (started n.cache) call)
+        ∙ ap (λ t. if t then serve_asked script (step_to (started n.cache)) name (asked_here (started n.cache) call)
+        else if may_park call then ask script (step_to (started n.cache)) call
         else request script (step_to (started looked-at)) call (owner_in n.cache name)) e
+        ∙ ap (λ t. if held
+        then serve_asked script (step_to (started n.cache)) name (asked_here (started n.cache) call)
+        else if t then ask script (step_to (started n.cache)) call
+        else request script (step_to (started looked-at)) call (owner_in n.cache name)) f
 
     -- it holds the name
-    module _ (held : node_holds n name ≡ true) where
-      abbrev in-hand : Beside
-      in-hand = started_beside script w b holds 1 low high s n.cache node-was.owners others
-
-      holds-in-hand : Holds script (world_after w 1 (step_to (started n.cache)))
-          (Request (started_asked script w b holds 1 low high s n.cache node-was.owners others) ∷ []) in-hand
-      holds-in-hand = start-in-hand script w b holds 1 low high s n.cache node-was.owners others
-
-      watching : WatchesAsOwner (node_of (world_after w 1 (step_to (started n.cache))) 1)
-      watching = let now = ready-now n.cache node-was.owners others in now.watches
-
-      at-next : IsAtLeader (world_after w 1 (step_to (started n.cache))) in-hand name
-      at-next =
-          let at : IsAtLeader w b name = held-at-leader script w b name holds held
-          in record {
-            deed_is = at.deed_is;
-            held = ap (λ (m : Node). get_named m.deeds name)
-                (started-here script w b holds 1 low high s n.cache node-was.owners others) ∙ at.held;
-          }
-
-      abbrev noted : Watches
-      noted =
-          noted_if (has_read call (own_served_reply script w (step_to (started n.cache)) (n.caller.ticket + 1) n.pid
-          call [] in-hand holds-in-hand high never watching name (inl is) at-next)) (started n.cache) name
-
-      abbrev after : Step
-      after =
-          own_served_step script w (step_to (started n.cache)) (n.caller.ticket + 1) n.pid call [] in-hand
-          holds-in-hand high never watching name (inl is) at-next noted (λ l. l)
-
-      served-rule : run script n ≡ Some after
-      served-rule =
-          rule-at true held
-          ∙ ap (serve_asked script (step_to (started n.cache)) name)
-          (started-asked-here script w b holds 1 low high s n.cache node-was.owners others)
-          ∙ own-serve-rule script w (step_to (started n.cache)) (n.caller.ticket + 1) n.pid call [] in-hand
-          holds-in-hand high never watching name (inl is) at-next
-
-      served-there : Keeps script w (events.Run 1) (AfterRun b 1)
-      served-there =
-          record {
-            beside = own_served_beside script w (step_to (started n.cache)) (n.caller.ticket + 1) n.pid call [] in-hand
-                holds-in-hand high never watching name (inl is) at-next;
-            keeps = record {
-              next = world_after w 1 after;
-              is_step = run-steps script w 1 after holds.shape low high served-rule;
-              holds = own-served-holds script w (step_to (started n.cache)) (n.caller.ticket + 1) n.pid call [] in-hand
-                  holds-in-hand high never watching name (inl is) at-next noted (λ l. l) refl
-                  (own-keys-stay script (world_after w 1 (step_to (started n.cache))) (n.caller.ticket + 1) n.pid call
-                  [] in-hand holds-in-hand high name (inl is)
-                  (own-is-served script w (step_to (started n.cache)) (n.caller.ticket + 1) n.pid call [] in-hand
-                  holds-in-hand high never watching name (inl is) at-next) at-next is);
-            };
-            after = inr (record { place = Idle; calls = λ y. twice-in b.call 1 IsInHand Idle y; fits = tt });
-          }
+    served-there : node_holds n name ≡ true → Runs
+    served-there held =
+        served n.cache node-was.owners others name is
+        (in-table script w [] b holds 1 (ap is_born_stage s.stage) name held)
+        (rule-at true (may_park call) held refl
+        ∙ ap (serve_asked script (step_to (started n.cache)) name)
+        (started-asked-here script w b holds 1 low high s n.cache node-was.owners others))
 
     -- its cache afterwards
 
@@ -245,9 +223,9 @@ module _ (script : Script) (sound : IsSoundScript script) (w : World) (b : Besid
         (All-contains_itself n.cache)) (owner_in n.cache name) refl) there
 
     -- the owner that it names is asked
-    asked-owner : node_holds n name ≡ false → (owner : ℕ) → owner_in n.cache name ≡ Some owner
-        → Keeps script w (events.Run 1) (AfterRun b 1)
-    asked-owner elsewhere owner found =
+    asked-owner : node_holds n name ≡ false → may_park call ≡ false → (owner : ℕ) → owner_in n.cache name ≡ Some owner
+        → Runs
+    asked-owner elsewhere quick owner found =
         record {
           beside = record b { call = call_in b.call 1 (InRequest owner) };
           keeps = out-keeps script w b holds 1 low high s (InRequest owner) owner
@@ -260,26 +238,30 @@ module _ (script : Script) (sound : IsSoundScript script) (w : World) (b : Besid
                 in_stream = λ t q. refl;
                 not_held = λ m. refl;
                 not_in_hand = refl;
+                not_waiting = λ m. refl;
+                not_made = refl;
                 no_end = refl;
                 no_lease_place = λ k. refl;
                 about = refl;
                 about_none = λ y d. ne_eqb 1 y (λ e. d (sym e));
+                no_cancel = λ y. refl;
                 plain = refl;
                 no_birth = refl;
                 no_lease = λ k. refl;
                 no_name = λ m. refl;
                 may_be = its.0;
-                home = ap (λ h. may_be_in (InRequest owner) h call) is;
+                home = ap (λ h. may_be_in (InRequest owner) h call) is ∙ ap not quick;
                 used_up = tt;
                 between = its;
                 to_be_made = λ x made. made;
                 owners = owners-now;
               })
-              (rule-at false elsewhere ∙ ap (request script (step_to (started looked-at)) call) found
+              (rule-at false false elsewhere quick ∙ ap (request script (step_to (started looked-at)) call) found
               ∙ ap (λ t. if t then ask script (step_to (started looked-at)) call
               else Some (send (step_to (started looked-at)) owner (frames.Request (n.caller.ticket + 1) n.pid call)))
               (ne_eqb owner n.number (λ e. its.1 (e ∙ node-was.number))));
-          after = inr (record { place = InRequest owner; calls = λ y. refl; fits = tt });
+          after = inr (moved-alone b.call (call_in b.call 1 (InRequest owner)) 1 (λ place. Unit {0}) (InRequest owner)
+              (λ y. refl) tt);
         }
       where
         its : (is_born_in w owner ≡ true) × (owner ≢ 1)
@@ -288,16 +270,20 @@ module _ (script : Script) (sound : IsSoundScript script) (w : World) (b : Besid
         within : (1 ≤ owner) × (owner ≤ node_count script)
         within = born-in-range script w holds.shape owner its.0
 
-    by-owner : node_holds n name ≡ false → (o : Option ℕ) → owner_in n.cache name ≡ o
-        → Keeps script w (events.Run 1) (AfterRun b 1)
-    by-owner elsewhere (Some owner) found = asked-owner elsewhere owner found
-    by-owner elsewhere None found =
+    by-owner : node_holds n name ≡ false → may_park call ≡ false → (o : Option ℕ) → owner_in n.cache name ≡ o → Runs
+    by-owner elsewhere quick (Some owner) found = asked-owner elsewhere quick owner found
+    by-owner elsewhere quick None found =
         routed looked-at owners-now others
-        (rule-at false elsewhere ∙ ap (request script (step_to (started looked-at)) call) found)
+        (rule-at false false elsewhere quick ∙ ap (request script (step_to (started looked-at)) call) found)
 
-    by-held : (t : Bool) → node_holds n name ≡ t → Keeps script w (events.Run 1) (AfterRun b 1)
+    by-waits : node_holds n name ≡ false → (t : Bool) → may_park call ≡ t → Runs
+    by-waits elsewhere true parks =
+        routed n.cache node-was.owners others (rule-at false true elsewhere parks)
+    by-waits elsewhere false quick = by-owner elsewhere quick (owner_in n.cache name) refl
+
+    by-held : (t : Bool) → node_holds n name ≡ t → Runs
     by-held true e = served-there e
-    by-held false e = by-owner e (owner_in n.cache name) refl
+    by-held false e = by-waits e (may_park call) refl
 
     -- Node 1 starts a call on a name.
     pub own-at-starts : Keeps script w (events.Run 1) (AfterRun b 1)

@@ -3,12 +3,11 @@ use Rattle.std.proofs.Common.{◌≡◌, ◌≢◌, ℕ, Bool, true, false, ◌&
 use Rattle.std.proofs.lemmas.Bool.{eq-eqb, ne_eqb}
 use Rattle.pico_base.specs.declared.call.Call.{Call}
 use Rattle.pico_base.specs.declared.script.Script.{Script}
-use Rattle.pico_base.specs.declared.script.Event.TheVariants as events
 use Rattle.pico_base.specs.Home.{home_of}
 use Rattle.rpc_frame.specs.declared.asked.Asked.{Asked}
 use Rattle.rpc_frame.specs.declared.frame.Frame.{Frame}
 use Rattle.rpc_frame.specs.declared.frame.Frame.TheVariants as frames
-use Rattle.kernel_model.specs.Waiting.{is_waiting}
+use Rattle.waiting_model.specs.Calls.{is_withdrawal}
 use Rattle.kernel_model.specs.Fitting.{IsDue}
 use Rattle.node_model.specs.declared.held.Held.TheVariants.{Request}
 use Rattle.node_model.specs.Caller.{Caller, caller_place}
@@ -19,27 +18,31 @@ use Rattle.world_model.specs.Routes.{route_call}
 use Rattle.world_model.specs.World.{World, world_after}
 use Rattle.world_laws.specs.Places.{IsInHand, Beside, call_in}
 use Rattle.world_laws.specs.Sights.{node_of, is_born_in}
-use Rattle.world_laws.specs.Callers.{CallSight, call_sight, CallHolds, HasCall, IsToBeMade, IsJustThere, IsSoFar, asked_of, only_if, is_in_stream, frame_at, is_held_at, is_about, is_end_place, may_be_in}
+use Rattle.world_laws.specs.Callers.{CallSight, call_sight, CallHolds, HasCall, IsToBeMade, IsJustThere, IsSoFar, asked_of, only_if, is_in_stream, frame_at, is_held_at, is_about, is_end_place, is_waiting_at, may_be_in}
 use Rattle.world_laws.specs.Ranges.{has_lease}
 use Rattle.world_laws.specs.Families.{NodeHolds}
 use Rattle.world_laws.specs.Invariant.{Holds}
-use Rattle.world_laws.proofs.Steps.{KeepsAs, Heads, world_without, take-steps}
+use Rattle.world_laws.proofs.Steps.{Heads, world_without}
 use Rattle.world_laws.proofs.Heads.{head-is, head-from-another}
 use Rattle.rule_laws.proofs.Answers.{Found, find}
 use Rattle.rule_laws.proofs.CallFrames.{IsAskOf, ask-of}
 use Rattle.route_laws.proofs.hand.Takings.{IsTakenUp, IsSameLeader, name-not-taken, taken-keeps}
 use Rattle.route_laws.proofs.hand.Routes.{RouteKeeps}
+use Rattle.route_laws.proofs.Owed.{KeepsByRule}
+use Rattle.world_laws.proofs.Pairs.{goes_on}
+use Rattle.world_laws.proofs.Wholes.{is_to_be_made}
 
--- no call that a script makes waits
-abbrev pub NeverWaits : Script → Type 0
-NeverWaits script = (p : ℕ) (c : Caller) (call : Call) → IsDue (caller_place script p c) call → is_waiting call ≡ false
+-- no call that a script makes is a withdrawal
+abbrev pub NeverWithdraws : Script → Type 0
+NeverWithdraws script =
+    (p : ℕ) (c : Caller) (call : Call) → IsDue (caller_place script p c) call → is_withdrawal call ≡ false
 
-all-true : (leads from others waits : Bool) → leads ≡ true → from ≡ false → others ≡ true → waits ≡ false
-    → ((leads && not from) && (others && not waits)) ≡ true
-all-true leads from others waits a c e f = rw (a, c, e, f) refl
+all-true : (leads from others withdraws : Bool) → leads ≡ true → from ≡ false → others ≡ true → withdraws ≡ false
+    → ((leads && not from) && (others && not withdraws)) ≡ true
+all-true leads from others withdraws a c e f = rw (a, c, e, f) refl
 
 module _ (script : Script) (w : World) (b : Beside) (holds : Holds script w [] b) (q ticket pid : ℕ) (call : Call)
-    (rest : List Frame) (h : Heads script w 1 q (frames.Ask ticket pid call) rest) where
+    (rest : List Frame) (h : Heads script w 1 q (frames.Ask ticket pid call) rest) (never : NeverWithdraws script) where
   abbrev frame : Frame
   frame = frames.Ask ticket pid call
 
@@ -103,6 +106,9 @@ module _ (script : Script) (w : World) (b : Beside) (holds : Holds script w [] b
   to-be-made : IsToBeMade script q x found.call
   to-be-made = subst (λ y. IsSoFar script q x found.call y) is-ask.place_is has.so_far
 
+  pub is-call : is_withdrawal call ≡ false
+  is-call = ap is_withdrawal is-ask.call_is ∙ never q x.caller found.call to-be-made.due
+
   taken-up : IsTakenUp script w b q frame asked
   taken-up =
       record {
@@ -114,6 +120,10 @@ module _ (script : Script) (w : World) (b : Beside) (holds : Holds script w [] b
         asked_is = asked-is;
         for_others = for-others;
         to_be_made = to-be-made;
+        is_call = is-call;
+        goes = ap (λ y. goes_on y IsInHand) is-ask.place_is;
+        is_made_yet = ap is_to_be_made is-ask.place_is;
+        no_waiter = λ name. ap (λ y. is_waiting_at y name) is-ask.place_is;
         not_end = ap is_end_place is-ask.place_is;
         no_lease = λ kind. ap (has_lease kind) is-ask.place_is;
         no_item = λ name. ap (λ z. is_held_at z name) is-ask.place_is;
@@ -122,6 +132,7 @@ module _ (script : Script) (w : World) (b : Beside) (holds : Holds script w [] b
         of_no_other = λ y d. ne_eqb q y (λ e. d (sym e));
         plain = refl;
         no_birth = refl;
+        no_cancel = λ y. refl;
         brings_no_lease = λ kind. refl;
       }
 
@@ -142,21 +153,13 @@ module _ (script : Script) (w : World) (b : Beside) (holds : Holds script w [] b
       (λ m. name-not-taken script w b holds q frame rest h asked taken-up n same-leader m refl)
 
   -- The rule applies, and routes it.
-  pub ask-is-routed : NeverWaits script → take_ask script n q ticket pid call ≡ route_call script (step_to n) asked
-  ask-is-routed never =
+  pub ask-is-routed : take_ask script n q ticket pid call ≡ route_call script (step_to n) asked
+  ask-is-routed =
       let m : NodeHolds script b.pids (is_born_in w) 1 n = holds.nodes 1 h.low h.high
-      in let made : IsToBeMade script q x found.call = to-be-made
       in ap (λ t. if t then route_call script (step_to n) asked else None)
-      (all-true (is_leader n) (nat_eq q 1) (is_for_others (home_of pid call)) (is_waiting call)
-      (eq-eqb n.number 1 m.number) (ne_eqb q 1 other) for-others
-      (ap is_waiting is-ask.call_is ∙ never q x.caller found.call made.due))
+      (all-true (is_leader n) (nat_eq q 1) (is_for_others (home_of pid call)) (is_withdrawal call)
+      (eq-eqb n.number 1 m.number) (ne_eqb q 1 other) for-others is-call)
 
-  -- So an Ask has a step wherever its call has a route, and keeps what the route keeps.
-  pub ask-keeps : NeverWaits script → (b' : Beside) → RouteKeeps script v (step_to n) asked [] b'
-      → KeepsAs script w (events.Take 1 q) b'
-  ask-keeps never b' r =
-      record {
-        next = world_after v 1 r.next;
-        is_step = take-steps script w 1 q frame rest r.next holds.shape h (ask-is-routed never ∙ r.is_route);
-        holds = r.holds;
-      }
+  -- So the rule has a step wherever the call has a route, and keeps what the route keeps.
+  pub ask-keeps : (b' : Beside) → RouteKeeps script v (step_to n) asked [] b' → KeepsByRule script w 1 q frame rest b'
+  ask-keeps b' r = record { step = r.next; is_step = ask-is-routed ∙ r.is_route; holds = r.holds }

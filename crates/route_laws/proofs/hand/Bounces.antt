@@ -16,25 +16,28 @@ use Rattle.world_model.specs.Node.{Node, is_leader, is_node}
 use Rattle.world_model.specs.Step.{step_to}
 use Rattle.world_model.specs.Calls.{is_for_others, is_on_name_or_removal, take_bounce}
 use Rattle.world_model.specs.World.{World, node_count, world_after}
-use Rattle.world_laws.specs.Places.{IsInHand, Beside, call_in}
+use Rattle.world_laws.specs.Places.{InBounce, IsInHand, Beside, call_in}
 use Rattle.world_laws.specs.Sights.{node_of, directory_of, is_born_in}
 use Rattle.world_laws.specs.Plays.{News, NeedsPlace, finds_place, is_call_on, news, news_if}
 use Rattle.world_laws.specs.Names.{name_sight, NameHolds, is_maker}
-use Rattle.world_laws.specs.Callers.{CallSight, call_sight, CallHolds, HasCall, IsToBeMade, IsJustThere, IsSoFar, asked_of, only_if, is_in_stream, frame_at, is_held_at, is_about, is_end_place, may_be_in}
+use Rattle.world_laws.specs.Callers.{CallSight, call_sight, CallHolds, HasCall, IsToBeMade, IsJustThere, IsSoFar, asked_of, only_if, is_in_stream, frame_at, is_held_at, is_about, is_end_place, is_waiting_at, may_be_in}
 use Rattle.world_laws.specs.Ranges.{has_lease}
 use Rattle.world_laws.specs.Invariant.{Holds}
-use Rattle.world_laws.proofs.Steps.{Heads, KeepsAs, take-steps, world_without}
+use Rattle.world_laws.proofs.Steps.{Heads, world_without}
 use Rattle.world_laws.proofs.Heads.{head-is, head-from-another}
 use Rattle.rule_laws.proofs.Answers.{Found, find}
 use Rattle.rule_laws.proofs.CallFrames.{IsBounceOf, bounce-of}
 use Rattle.route_laws.proofs.hand.Takings.{IsTakenUp, IsSameLeader, name-news-taken, name-not-taken, taken-keeps}
 use Rattle.world_model.specs.Routes.{route_call}
-use Rattle.kernel_model.specs.Waiting.{is_waiting}
+use Rattle.waiting_model.specs.Calls.{is_withdrawal}
 use Rattle.world_laws.specs.Families.{NodeHolds}
 use Rattle.rule_laws.proofs.Nodes.{and-true}
-use Rattle.route_laws.proofs.hand.Asks.{NeverWaits}
+use Rattle.route_laws.proofs.hand.Asks.{NeverWithdraws}
 use Rattle.route_laws.proofs.hand.Routes.{RouteKeeps}
-use Rattle.pico_base.specs.declared.script.Event.TheVariants as events
+use Rattle.route_laws.proofs.Owed.{KeepsByRule}
+use Rattle.world_laws.proofs.Pairs.{goes_on}
+use Rattle.world_laws.proofs.Wholes.{is_to_be_made}
+use Rattle.pico_base.specs.declared.call.Call.{Call}
 
 for-others-too : (home : Home) → is_on_name_or_removal home ≡ true → is_for_others home ≡ true
 for-others-too (homes.At name) h = refl
@@ -47,14 +50,23 @@ known-first : (known : Bool) (ns : List News) → finds_place known (NeedsPlace 
 known-first true ns h = refl
 known-first false ns h = absurd (false≢true h)
 
-all-true : (leads from is_node on waits : Bool) → leads ≡ true → from ≡ false → is_node ≡ true → on ≡ true
-    → waits ≡ false → ((leads && not from) && (is_node && (on && not waits))) ≡ true
-all-true leads from is_node on waits a c d e f = rw (a, c, d, e, f) refl
+all-true : (leads from is_node on withdraws : Bool) → leads ≡ true → from ≡ false → is_node ≡ true → on ≡ true
+    → withdraws ≡ false → ((leads && not from) && (is_node && (on && not withdraws))) ≡ true
+all-true leads from is_node on withdraws a c d e f = rw (a, c, d, e, f) refl
+
+-- what may come back is a removal, or a call on a process
+came-back-on-name : (home : Home) (h : ℕ) (call : Call) → may_be_in (InBounce h) home call ≡ true
+    → is_on_name_or_removal home ≡ true
+came-back-on-name (homes.At name) h call may = refl
+came-back-on-name (homes.Removal name) h call may = refl
+came-back-on-name homes.Own h call may = absurd (false≢true may)
+came-back-on-name homes.Keys h call may = absurd (false≢true may)
+came-back-on-name homes.Parent h call may = absurd (false≢true may)
 
 -- the caller is a node of the script
 module _ (script : Script) (w : World) (b : Beside) (holds : Holds script w [] b) (q : ℕ) (asked : Asked)
     (rest : List Frame) (h : Heads script w 1 q (frames.Bounce asked) rest) (low : 1 ≤ asked.caller)
-    (high : asked.caller ≤ node_count script) where
+    (high : asked.caller ≤ node_count script) (never : NeverWithdraws script) where
   abbrev frame : Frame
   frame = frames.Bounce asked
 
@@ -100,19 +112,21 @@ module _ (script : Script) (w : World) (b : Beside) (holds : Holds script w [] b
       bounce-of (asked_of x found.call) p 1 q asked (filter (is_about p 1 q) rest) x.call
       (sym (just-there.in_streams 1 q) ∙ about-first)
 
-  for-others : is_for_others (home_of asked.pid asked.call) ≡ true
-  for-others =
-      subst (λ (a : Asked). is_for_others (home_of a.pid a.call) ≡ true) (sym is-bounce.asked_is)
-      (for-others-too (home_of x.pid found.call)
-      (sym (ap (λ y. may_be_in y (home_of x.pid found.call) found.call) is-bounce.place_is) ∙ has.home))
-
   on-name-too : is_on_name_or_removal (home_of asked.pid asked.call) ≡ true
   on-name-too =
       subst (λ (a : Asked). is_on_name_or_removal (home_of a.pid a.call) ≡ true) (sym is-bounce.asked_is)
-      (sym (ap (λ y. may_be_in y (home_of x.pid found.call) found.call) is-bounce.place_is) ∙ has.home)
+      (came-back-on-name (home_of x.pid found.call) q found.call
+      (sym (ap (λ y. may_be_in y (home_of x.pid found.call) found.call) is-bounce.place_is) ∙ has.home))
+
+  for-others : is_for_others (home_of asked.pid asked.call) ≡ true
+  for-others = for-others-too (home_of asked.pid asked.call) on-name-too
 
   to-be-made : IsToBeMade script p x found.call
   to-be-made = subst (λ y. IsSoFar script p x found.call y) is-bounce.place_is has.so_far
+
+  pub is-call : is_withdrawal asked.call ≡ false
+  is-call =
+      ap (λ (a : Asked). is_withdrawal a.call) is-bounce.asked_is ∙ never p x.caller found.call to-be-made.due
 
   taken-up : IsTakenUp script w b q frame asked
   taken-up =
@@ -124,7 +138,11 @@ module _ (script : Script) (w : World) (b : Beside) (holds : Holds script w [] b
         has = has;
         asked_is = is-bounce.asked_is;
         for_others = for-others;
-        to_be_made = subst (λ y. IsSoFar script p x found.call y) is-bounce.place_is has.so_far;
+        to_be_made = to-be-made;
+        is_call = is-call;
+        goes = ap (λ y. goes_on y IsInHand) is-bounce.place_is;
+        is_made_yet = ap is_to_be_made is-bounce.place_is;
+        no_waiter = λ name. ap (λ y. is_waiting_at y name) is-bounce.place_is;
         not_end = ap is_end_place is-bounce.place_is;
         no_lease = λ kind. ap (has_lease kind) is-bounce.place_is;
         no_item = λ name. ap (λ z. is_held_at z name) is-bounce.place_is;
@@ -133,6 +151,7 @@ module _ (script : Script) (w : World) (b : Beside) (holds : Holds script w [] b
         of_no_other = λ y d. ne_eqb p y (λ e. d (sym e));
         plain = refl;
         no_birth = refl;
+        no_cancel = λ y. refl;
         brings_no_lease = λ kind. refl;
       }
 
@@ -173,24 +192,17 @@ module _ (script : Script) (w : World) (b : Beside) (holds : Holds script w [] b
       by-test m false e = name-not-taken script w b holds q frame rest h asked taken-up n same-leader m e
 
   -- The rule applies, and routes it.
-  pub bounce-is-routed : NeverWaits script → take_bounce script n q asked ≡ route_call script (step_to n) asked
-  bounce-is-routed never =
+  pub bounce-is-routed : take_bounce script n q asked ≡ route_call script (step_to n) asked
+  bounce-is-routed =
       let m : NodeHolds script b.pids (is_born_in w) 1 n = holds.nodes 1 h.low h.high
-      in let made : IsToBeMade script p x found.call = to-be-made
       in ap (λ t. if t then route_call script (step_to n) asked else None)
       (all-true (is_leader n) (nat_eq q 1) (is_node script asked.caller)
-      (is_on_name_or_removal (home_of asked.pid asked.call)) (is_waiting asked.call) (eq-eqb n.number 1 m.number)
+      (is_on_name_or_removal (home_of asked.pid asked.call)) (is_withdrawal asked.call) (eq-eqb n.number 1 m.number)
       (ne_eqb q 1 other)
       (and-true (nat_le 1 p) (nat_le p (length script.blocks)) (le-leb 1 p low) (le-leb p (length script.blocks) high))
-      on-name-too
-      (ap (λ (a : Asked). is_waiting a.call) is-bounce.asked_is ∙ never p x.caller found.call made.due))
+      on-name-too is-call)
 
-  -- So a Bounce has a step wherever its call has a route, and keeps what the route keeps.
-  pub bounce-keeps : NeverWaits script → (b' : Beside) → RouteKeeps script v (step_to n) asked [] b'
-      → KeepsAs script w (events.Take 1 q) b'
-  bounce-keeps never b' r =
-      record {
-        next = world_after v 1 r.next;
-        is_step = take-steps script w 1 q frame rest r.next holds.shape h (bounce-is-routed never ∙ r.is_route);
-        holds = r.holds;
-      }
+  -- So the rule has a step wherever the call has a route, and keeps what the route keeps.
+  pub bounce-keeps : (b' : Beside) → RouteKeeps script v (step_to n) asked [] b' → KeepsByRule script w 1 q frame rest
+      b'
+  bounce-keeps b' r = record { step = r.next; is_step = bounce-is-routed ∙ r.is_route; holds = r.holds }

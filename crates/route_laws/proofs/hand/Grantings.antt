@@ -11,7 +11,6 @@ use Rattle.rpc_frame.specs.declared.frame.Frame.TheVariants as frames
 use Rattle.number_maps.specs.Maps.{get}
 use Rattle.node_model.specs.declared.held.Held.{Held}
 use Rattle.node_model.specs.Kinds.{is_object, is_same_name, kind_of, number_of, get_named, without_named}
-use Rattle.node_model.specs.Bodies.{body_in}
 use Rattle.node_model.specs.Directory.{Directory, Parting, Place, At, place_of, with_place, arrive, items_of, has_deed_of, is_parcel_with, maker, maker_in, stays}
 use Rattle.node_model.specs.Spelling.{pack}
 use Rattle.node_model.specs.Watches.{Watches}
@@ -25,7 +24,8 @@ use Rattle.world_laws.specs.Plays.{Hold, Has, Lacks, Done, PlayStep, Comes, Goes
 use Rattle.world_laws.specs.Names.{NameSight, name_sight, NameHolds, PlaysTo, OneIf, IsBringer, IsItemWith, held_as, held_at, comes_to, is_stream_of, is_kept_for, is_hand_place, node_in, belief_of, maker_tells, range_steps_of, forker, is_maker}
 use Rattle.world_laws.specs.Ways.{WaySight, Way, way_sight, is_recall_all, here, tells, collected, over, gone}
 use Rattle.world_laws.specs.Families.{NodeHolds}
-use Rattle.world_laws.specs.Invariant.{Holds}
+use Rattle.world_laws.specs.Cancels.{Owing}
+use Rattle.world_laws.specs.Invariant.{HoldsOwing}
 use Rattle.world_laws.proofs.Named.{name-cases, same-name, other-name, get-without-same-name, get-without-other-name}
 use Rattle.world_laws.proofs.Played.{play-append, play-none}
 use Rattle.world_laws.proofs.Sends.{frame_if}
@@ -61,16 +61,18 @@ goes-on-exit : (t : Bool) (ss : List PlayStep) → GoesOn ss → GoesOn (if t th
 goes-on-exit true ss h = (refl, tt)
 goes-on-exit false ss h = h
 
-frame-goes-on : (call : ℕ → CallPlace) (name : Name) (f : Frame) → is_recall_all f ≡ false
-    → GoesOn (steps_of call name f)
-frame-goes-on call name (frames.Grant deed) h = goes-on-if (is_same_name name deed.name) Comes refl
-frame-goes-on call name (frames.Checkpoint pid parent deed vars) h = goes-on-if (is_same_name name deed.name) Comes refl
-frame-goes-on call name (frames.ExitTo parcel) h =
+frame-goes-on : (used : Bool) (call : ℕ → CallPlace) (name : Name) (f : Frame) → is_recall_all f ≡ false
+    → GoesOn (steps_of used call name f)
+frame-goes-on used call name (frames.Grant deed) h = goes-on-if (is_same_name name deed.name) Comes refl
+frame-goes-on used call name (frames.Checkpoint pid parent deed vars) h = goes-on-if (is_same_name name deed.name)
+    Comes refl
+frame-goes-on used call name (frames.ExitTo parcel) h =
     goes-on-exit (has_deed_of name parcel) _ (goes-on-if (is_same_name name (Proc parcel.parent)) IsNeeded refl)
-frame-goes-on call name (frames.Recall other) h = goes-on-if (is_same_name name other) Goes refl
-frame-goes-on call name frames.RecallAll h = absurd (false≢true (sym h))
-frame-goes-on call name (frames.Forward asked) h = goes-on-if _ IsNeeded refl
-frame-goes-on call name frame h = tt
+frame-goes-on used call name (frames.Recall other) h = goes-on-if (is_same_name name other) Goes refl
+frame-goes-on used call name frames.RecallAll h = absurd (false≢true (sym h))
+frame-goes-on used call name (frames.Forward asked) h = goes-on-if _ IsNeeded refl
+frame-goes-on used call name (frames.Cancel asked) h = goes-on-if _ IsNeeded refl
+frame-goes-on used call name frame h = tt
 
 both-go-on : (xs ys : List PlayStep) → GoesOn xs → GoesOn ys → GoesOn (xs ++ ys)
 both-go-on [] ys h g = g
@@ -84,13 +86,13 @@ drops-first true f fs h = absurd (not-empty f fs h)
 drops-first false f fs h = (refl, h)
 
 -- where no RecallAll is on its way not all goes
-frames-go-on : (call : ℕ → CallPlace) (name : Name) (fs : List Frame) → filter is_recall_all fs ≡ []
-    → GoesOn (plays call name fs)
-frames-go-on call name [] h = tt
-frames-go-on call name (f ∷ fs) h =
+frames-go-on : (used : Bool) (call : ℕ → CallPlace) (name : Name) (fs : List Frame) → filter is_recall_all fs ≡ []
+    → GoesOn (plays used call name fs)
+frames-go-on used call name [] h = tt
+frames-go-on used call name (f ∷ fs) h =
     let both = drops-first (is_recall_all f) f (filter is_recall_all fs) h
-    in both-go-on (steps_of call name f) (plays call name fs) (frame-goes-on call name f both.0)
-    (frames-go-on call name fs both.1)
+    in both-go-on (steps_of used call name f) (plays used call name fs) (frame-goes-on used call name f both.0)
+    (frames-go-on used call name fs both.1)
 
 some-hold : (a c : Hold) → Some a ≡ Some c → a ≡ c
 some-hold a c h = cc
@@ -234,6 +236,8 @@ module _ (script : Script) (pids : ℕ → ℕ) (born : ℕ → Bool) (name : Na
       (granted_sight x to (frames.Grant (pack name x.body)) first)
   name-granted =
       record {
+        parts = h.parts;
+        callers = h.callers;
         made = (λ e. absurd (not-unmade e), λ u. absurd (used u));
         place_fits = object;
         tables = λ q. refl;
@@ -261,15 +265,16 @@ module _ (script : Script) (pids : ℕ → ℕ) (born : ℕ → Bool) (name : Na
 
 -- ---- the move
 
-module _ (script : Script) (w : World) (hand : List Held) (b : Beside) (holds : Holds script w hand b)
-    (name : Name) (to : ℕ) (object : is_object name ≡ true) (born : is_born_in w to ≡ true) (other : to ≢ 1)
+module _ (script : Script) (w : World) (hand : List Held) {owes : Owing} (b : Beside)
+    (holds : HoldsOwing script w hand owes b) (name : Name) (to : ℕ) (object : is_object name ≡ true)
+    (born : is_born_in w to ≡ true) (other : to ≢ 1)
     (place : place_of (directory_of w) name ≡ Some (At 1)) (stays_there : stays (directory_of w) to ≡ true)
     (watches : Watches) (w' : World)
     (c : Changes script 1 w w'
     (with_directory (record (node_of w 1) {
       deeds = without_named (node_of w 1).deeds name;
       watches = watches;
-    }) (arrive (directory_of w) name to)) [] ((to, frames.Grant (pack name (body_in b.kernel name))) ∷ []) []) where
+    }) (arrive (directory_of w) name to)) [] ((to, frames.Grant (pack name (b.body name))) ∷ []) []) where
   abbrev x : NameSight
   x = name_sight script w hand b name
 
@@ -284,7 +289,7 @@ module _ (script : Script) (w : World) (hand : List Held) (b : Beside) (holds : 
       }) (arrive d name to)
 
   abbrev frame : Frame
-  frame = frames.Grant (pack name (body_in b.kernel name))
+  frame = frames.Grant (pack name (b.body name))
 
   abbrev sends : List (ℕ × Frame)
   sends = (to, frame) ∷ []
@@ -341,6 +346,8 @@ module _ (script : Script) (w : World) (hand : List Held) (b : Beside) (holds : 
         no_lease_sent = λ kind. (refl, tt);
         of_no_call = λ y. tt;
         sent_of_no_call = λ y. (refl, tt);
+        no_cancel_taken = λ y. tt;
+        no_cancel_sent = λ y. (refl, tt);
         may_be_sent = ((refl, born), tt);
         to_others = (other, tt);
       }
@@ -388,16 +395,17 @@ module _ (script : Script) (w : World) (hand : List Held) (b : Beside) (holds : 
             (c.others q g))
       ]
 
-  comes-if : (t : Bool) → plays b.call name (frame_if t frame ++ []) ≡ steps_if t Comes
+  comes-if : (t : Bool) → plays x.used b.call name (frame_if t frame ++ []) ≡ steps_if t Comes
   comes-if true = ap (λ u. steps_if u Comes ++ []) (same-name name name refl)
   comes-if false = refl
 
-  steps-now : (y : ℕ) → x.steps y ++ steps_if (nat_eq y to) Comes ≡ plays b.call name (frames_to w' y 1)
+  steps-now : (y : ℕ) → x.steps y ++ steps_if (nat_eq y to) Comes ≡ plays x.used b.call name (frames_to w' y 1)
   steps-now y =
-      sym (made-after script 1 w w' n [] sends [] c (λ t s fs. plays b.call name fs)
+      sym (made-after script 1 w w' n [] sends [] c (λ t s fs. plays x.used b.call name fs)
       (λ t s. flat_map-is-list-map _) y 1
-      ∙ ap (λ ss. ss ++ plays b.call name (sent 1 sends y 1))
-      (stayed script 1 w w' n [] sends [] c (λ t s fs. plays b.call name fs) (λ t s. flat_map-is-list-map _) tt y 1)
+      ∙ ap (λ ss. ss ++ plays x.used b.call name (sent 1 sends y 1))
+      (stayed script 1 w w' n [] sends [] c (λ t s fs. plays x.used b.call name fs) (λ t s. flat_map-is-list-map _) tt
+      y 1)
       ∙ ap (λ ss. x.steps y ++ ss) (comes-if (nat_eq y to)))
 
   brought-before : (h sender : ℕ) → x.brought h sender ≡ []
@@ -425,6 +433,7 @@ module _ (script : Script) (w : World) (hand : List Held) (b : Beside) (holds : 
         maker = ap (λ ranges. maker_in ranges (number_of name)) (sym (same.ranges_are (kind_of name)));
         stays = λ y. ap is_none (sym (same.partings_are y));
         used = refl;
+        part = refl;
         body = refl;
         deed = sym (ap (λ t. if t then InGrant to else b.deed name) (same-name name name refl));
         held = held-now;
@@ -434,7 +443,8 @@ module _ (script : Script) (w : World) (hand : List Held) (b : Beside) (holds : 
         begins = begins-now;
         steps = steps-now;
         ranges = λ y. sym (made-same script 1 w w' n [] sends [] c
-            (λ t s fs. flat_map (range_steps_of b.call name) fs) (λ t s. flat_map-is-list-map _) tt (refl, tt) y 1);
+            (λ t s fs. flat_map (range_steps_of x.used b.call name) fs) (λ t s. flat_map-is-list-map _) tt (refl, tt) y
+            1);
         placed = λ y. sym (made-same script 1 w w' n [] sends [] c (λ t s fs. placed_in name fs)
             (λ t s. flat_map-is-list-map _) tt (refl, tt) 1 y);
         news = λ y. ap (λ ranges. news name (x.used && is_maker (maker_in ranges (number_of name)) y)
@@ -450,17 +460,18 @@ module _ (script : Script) (w : World) (hand : List Held) (b : Beside) (holds : 
         directory = directory-leaves d (directory_of w') m but-places
             (ap (λ y. place_of y m) directory-now ∙ place-with-other d name (At to) m e);
         used_is = refl;
+        part_is = refl;
         body_is = refl;
         deed_is = ap (λ t. if t then InGrant to else b.deed m) (other-name name m (λ g. e (sym g)));
         held_is = get-without-other-name (node_of w 1).deeds name m e;
         begins_is = λ holds_it comes. refl;
         hand_is = refl;
-        steps_are = λ y. refl;
-        ranges_are = λ y. refl;
+        steps_are = λ used y. refl;
+        ranges_are = λ used y. refl;
       }
 
   more : IsMore (is_born_in w) (is_born_in w')
-  more = quiet-born script w w' hand b deed_now 1 n [] sends (omega arith) high-one holds c quiet
+  more = quiet-born script w w' hand owes b deed_now 1 n [] sends (omega arith) high-one holds c quiet
 
   names : (m : Name) → NameHolds script b.pids (is_born_in w') m (name_sight script w' hand moved m)
   names m =
@@ -470,7 +481,7 @@ module _ (script : Script) (w : World) (hand : List Held) (b : Beside) (holds : 
             (name-stays script b.pids (is_born_in w) (is_born_in w') name _ _ more sight-now
             (name-granted script b.pids (is_born_in w) name x (holds.names name) to low-two object place at.deed_is
             (begins-so (stage_of w to) (is_some (held_at w name to)) (comes_to script w name to) still.not_left)
-            (frames-go-on b.call name (frames_to w to 1) still.no_recall) first))
+            (frames-go-on x.used b.call name (frames_to w to 1) still.no_recall) first))
         | inr g ↦
             name-stays script b.pids (is_born_in w) (is_born_in w') m _ _ more
             (name-left-alone script 1 w w' n [] sends [] c hand hand b moved m (others m g) tt
@@ -478,6 +489,6 @@ module _ (script : Script) (w : World) (hand : List Held) (b : Beside) (holds : 
       ]
 
   -- The deed is on its way to the node, which the leader believes to have it.
-  pub grant-sent-keeps : Holds script w' hand moved
+  pub grant-sent-keeps : HoldsOwing script w' hand owes moved
   grant-sent-keeps =
-      quiet-keeps script w w' hand b deed_now 1 n [] sends (omega arith) high-one holds c quiet names
+      quiet-keeps script w w' hand owes b deed_now 1 n [] sends (omega arith) high-one holds c quiet names

@@ -22,19 +22,28 @@ use Rattle.world_model.specs.Node.{Node}
 use Rattle.world_model.specs.Calls.{is_for_others}
 use Rattle.world_model.specs.Census.{brings}
 use Rattle.world_model.specs.World.{World, node_count}
-use Rattle.world_laws.specs.Places.{CallPlace, AsksLease, HasLease, SentByPlace, SentByRange, IsHeld, IsInHand, InAnswer, Ends, Beside, call_in}
+use Rattle.world_laws.specs.Places.{CallPlace, AsksLease, HasLease, SentByPlace, SentByRange, IsHeld, IsInHand, InAnswer, Ends, Beside, call_in, Waits}
 use Rattle.world_laws.specs.Sights.{node_of, frames_to, directory_of, stage_of, is_born_in}
 use Rattle.world_laws.specs.Plays.{PlayStep, plays, begin, has_any, is_checkpoint_of, placed_in, news}
 use Rattle.world_laws.specs.Names.{NameSight, name_sight, NameHolds, RangeStep, range_steps_of, held_at, comes_to, forker, is_maker}
-use Rattle.world_laws.specs.Callers.{CallSight, call_sight, CallHolds, HasCall, HasCallOrNone, IsToBeMade, IsJustThere, IsNowhere, IsBetween, asked_of, only_if, is_in_stream, frame_at, is_held_at, is_in_hand, is_about, is_item_about, is_end_place, may_be_in, IsSoFar, lease_is_over}
+use Rattle.world_laws.specs.Callers.{CallSight, call_sight, CallHolds, HasCall, HasCallOrNone, IsToBeMade, IsJustThere, IsNowhere, IsBetween, asked_of, only_if, is_in_stream, frame_at, is_held_at, is_in_hand, is_about, is_item_about, is_end_place, may_be_in, IsSoFar, lease_is_over, is_waiter_of, is_waiting_at}
 use Rattle.world_laws.specs.Ranges.{has_lease}
 use Rattle.world_laws.specs.Families.{NodeHolds}
-use Rattle.world_laws.specs.Invariant.{Holds, MayBe}
+use Rattle.world_laws.specs.Invariant.{MayBe, HoldsOwing}
 use Rattle.world_laws.proofs.Stays.{IsMore, SameCall, SameName, call-stays, name-stays, kind-stays}
 use Rattle.world_laws.proofs.Changes.{Changes, sent, filter-is-list-map, flat_map-is-list-map, stayed, made-after, made-same, read-same}
 use Rattle.world_laws.proofs.Frames.{ArePlain, BringNoBirth, BringNoLease}
 use Rattle.world_laws.proofs.LeftAlone.{SameCaller, DirectoryLeaves, AreNotAbout, name-left-alone, kind-left-alone, few-still}
-use Rattle.rule_laws.proofs.CallMoves.{IsCallMove, SameButCall, call-move-keeps, move-born, steps-still, ranges-still}
+use Rattle.rule_laws.proofs.CallMoves.{IsCallMove, SameButCall, call-move-keeps, move-born, steps-still, ranges-still, cancel-if-same}
+use Rattle.waiting_model.specs.Calls.{is_withdrawal}
+use Rattle.entry_laws.specs.Entering.{is_used_name}
+use Rattle.node_model.specs.Bodies.{waiters_of}
+use Rattle.node_model.specs.Serving.{waiting_as}
+use Rattle.world_laws.specs.Cancels.{CancelIf, Owing, cancel_sight, is_cancel_of, is_held_cancel_of}
+use Rattle.world_laws.proofs.Cancels.{is_item_of}
+use Rattle.world_laws.proofs.Pairs.{goes_on}
+use Rattle.world_laws.proofs.Wholes.{is_to_be_made}
+use Rattle.route_laws.proofs.Onwards.{cancel-goes-behind, is_wait_place, whole-goes-on}
 
 -- ---- the call that is first in hand
 
@@ -119,6 +128,29 @@ no-lease-due (HasLease kind first) leases h = absurd (false≢true h)
 no-lease-due (AsksLease kind) leases h = absurd (false≢true h)
 no-lease-due place leases h = tt
 
+no-wait-place : (place : CallPlace) (name : Name) → is_routed place ≡ true → is_waiting_at place name ≡ false
+no-wait-place (Waits other) name h = absurd (false≢true h)
+no-wait-place place name h = refl
+
+-- it goes on from the hand
+goes-from-hand : (place : CallPlace) → is_routed place ≡ true → goes_on IsInHand place ≡ true
+goes-from-hand (SentByPlace to) h = refl
+goes-from-hand (SentByRange to) h = refl
+goes-from-hand (IsHeld name) h = refl
+goes-from-hand place h = absurd (false≢true h)
+
+waits-not : (place : CallPlace) → is_routed place ≡ true → is_wait_place place ≡ false
+waits-not (SentByPlace to) h = refl
+waits-not (SentByRange to) h = refl
+waits-not (IsHeld name) h = refl
+waits-not place h = absurd (false≢true h)
+
+to-be-made-there : (place : CallPlace) → is_routed place ≡ true → is_to_be_made place ≡ true
+to-be-made-there (SentByPlace to) h = refl
+to-be-made-there (SentByRange to) h = refl
+to-be-made-there (IsHeld name) h = refl
+to-be-made-there place h = absurd (false≢true h)
+
 not-made-there : (script : Script) (p : ℕ) (x : CallSight) (call : Call) (place : CallPlace) → is_routed place ≡ true
     → IsToBeMade script p x call → IsSoFar script p x call place
 not-made-there script p x call (InAnswer node reply) h m = absurd (false≢true h)
@@ -133,6 +165,7 @@ placed_at x p place asked =
       frames_about = λ to sender. only_if (is_in_stream place p to sender) (frame_at place asked);
       held = λ name. only_if (is_held_at place name) (Request asked);
       hand = only_if (is_in_hand place) (Request asked);
+      waiters = λ name. only_if (is_waiting_at place name) (waiting_as asked);
     }
 
 module _ (script : Script) (p : ℕ) (born : ℕ → Bool) (x : CallSight) (asked : Asked) (items : List Held)
@@ -163,12 +196,14 @@ module _ (script : Script) (p : ℕ) (born : ℕ → Bool) (x : CallSight) (aske
                 in_streams = λ to sender. refl;
                 held_for_names = λ name. refl;
                 in_hand = refl;
+                waiting = λ name. refl;
               };
               home = subst (λ (a : Asked). may_be_in place (home_of a.pid a.call) a.call ≡ true) f.asked_is home;
               used_up = no-lease-due place x.leases routed;
               between = between;
               so_far = not-made-there script p placed f.call place routed still-to-be-made;
               at_work = has.at_work;
+              started = has.started;
               tickets = has.tickets;
               try_left = has.try_left;
             });
@@ -212,6 +247,9 @@ pub record IsRouted (script : Script) (w w' : World) (b : Beside) (asked : Asked
   pub held : (name : Name)
       → filter (is_item_about asked.caller) (held_for (directory_of w') name)
       ≡ only_if (is_held_at place name) (Request asked)
+  pub held_cancels : (name : Name)
+      → filter (is_held_cancel_of asked.caller) (held_for (directory_of w') name)
+      ≡ filter (is_held_cancel_of asked.caller) (held_for (directory_of w) name)
   -- the leader
   pub caller : SameCaller (node_of w 1) n
   pub deeds : n.deeds ≡ (node_of w 1).deeds
@@ -224,6 +262,7 @@ pub record IsRouted (script : Script) (w w' : World) (b : Beside) (asked : Asked
   pub no_birth : BringNoBirth sends
   pub no_lease : BringNoLease sends
   pub of_no_other : (y : ℕ) → y ≢ asked.caller → AllByRecursion (λ s. is_about y s.0 1 s.1 ≡ false) sends
+  pub no_cancel : (y : ℕ) → AllByRecursion (λ s. is_cancel_of y s.1 ≡ false) sends
   pub may_be : AllByRecursion (λ s. MayBe script (is_born_in w) s.0 1 s.1) sends
   pub to_others : AllByRecursion (λ s. s.0 ≢ 1) sends
 
@@ -243,9 +282,29 @@ routed_sight x place steps ranges =
       ranges = λ h. x.ranges h ++ ranges h;
     }
 
-module _ (script : Script) (w : World) (asked : Asked) (rest : List Held) (b : Beside)
-    (holds : Holds script w (Request asked ∷ rest) b) (low : 1 ≤ asked.caller)
-    (high : asked.caller ≤ node_count script) where
+-- the first item in hand is a call of a node of the script, and no withdrawal
+pub record IsCallOf (script : Script) (asked : Asked) : Type 0 where
+  pub low : 1 ≤ asked.caller
+  pub high : asked.caller ≤ node_count script
+  pub is_call : is_withdrawal asked.call ≡ false
+
+none-both : (t : Bool) → (t && false) ≡ false
+none-both true = refl
+none-both false = refl
+
+-- such an item is about its caller
+pub about-caller : (asked : Asked) → is_withdrawal asked.call ≡ false → is_item_about asked.caller (Request asked)
+    ≡ true
+about-caller asked is_call =
+    ap (λ t. t && not (is_withdrawal asked.call)) (eq-eqb asked.caller asked.caller refl) ∙ ap not is_call
+
+-- and no withdrawal of anyone's
+pub no-held-cancel : (asked : Asked) (y : ℕ) → is_withdrawal asked.call ≡ false
+    → is_held_cancel_of y (Request asked) ≡ false
+no-held-cancel asked y is_call = ap (λ t. nat_eq asked.caller y && t) is_call ∙ none-both (nat_eq asked.caller y)
+
+module _ (script : Script) (w : World) (asked : Asked) (rest : List Held) (b : Beside) {owes : Owing}
+    (holds : HoldsOwing script w (Request asked ∷ rest) owes b) (asks : IsCallOf script asked) where
   abbrev hand : List Held
   hand = Request asked ∷ rest
 
@@ -253,14 +312,14 @@ module _ (script : Script) (w : World) (asked : Asked) (rest : List Held) (b : B
   x = call_sight w hand b asked.caller
 
   call-holds : CallHolds script asked.caller (is_born_in w) x
-  call-holds = holds.calls asked.caller low high
+  call-holds = holds.calls asked.caller asks.low asks.high
 
   -- what is known of the call
   pub first : IsFirst script asked.caller (is_born_in w) x asked (filter (is_item_about asked.caller) rest)
   first =
       first-of-hand script asked.caller (is_born_in w) x asked (filter (is_item_about asked.caller) rest)
       (ap (λ t. cond t (Request asked ∷ filter (is_item_about asked.caller) rest)
-      (filter (is_item_about asked.caller) rest)) (eq-eqb asked.caller asked.caller refl))
+      (filter (is_item_about asked.caller) rest)) (about-caller asked asks.is_call))
       x.caller.under_way refl call-holds.call
 
   under-way : HasCall script asked.caller (is_born_in w) x first.call
@@ -280,6 +339,12 @@ module _ (script : Script) (w : World) (asked : Asked) (rest : List Held) (b : B
   held-for-none name =
       there.held_for_names name
       ∙ ap (λ y. only_if (is_held_at y name) (Request (asked_of x first.call))) first.place_is
+
+  -- nor is it among those who wait
+  pub waits-nowhere : (name : Name) → filter (is_waiter_of asked.caller) (waiters_of (b.body name)) ≡ []
+  waits-nowhere name =
+      there.waiting name
+      ∙ ap (λ y. only_if (is_waiting_at y name) (waiting_as (asked_of x first.call))) first.place_is
 
   -- it is for others to carry out
   pub in-hand-for-others : is_for_others (home_of asked.pid asked.call) ≡ true
@@ -302,9 +367,15 @@ module _ (script : Script) (w : World) (asked : Asked) (rest : List Held) (b : B
     routes = r.directory
 
     high-one : 1 ≤ node_count script
-    high-one = omega (arith, low, high)
+    high-one = let low = asks.low in let high = asks.high in omega (arith, low, high)
 
-    move : IsCallMove script w w' hand rest b b.deed calls-now 1 n [] sends asked.caller
+    others-still : (y : ℕ) → y ≢ asked.caller → calls-now y ≡ b.call y
+    others-still y d = ap (λ t. if t then place else b.call y) (ne_eqb asked.caller y (λ e. d (sym e)))
+
+    read : {A : Type 0} (f : Node → A) → f n ≡ f (node_of w 1) → (y : ℕ) → f (node_of w y) ≡ f (node_of w' y)
+    read f same y = sym (read-same script 1 w w' n [] sends [] c f same y)
+
+    move : IsCallMove script w w' hand rest owes owes b moved 1 n [] sends asked.caller
     move =
         record {
           stage = same-caller.stage;
@@ -315,16 +386,23 @@ module _ (script : Script) (w : World) (asked : Asked) (rest : List Held) (b : B
           directory = routes.same;
           node = r.node;
           deeds = λ pid. refl;
-          calls = λ y d. ap (λ t. if t then place else b.call y) (ne_eqb asked.caller y (λ e. d (sym e)));
-          hand_of_others = λ y d. sym (ap (λ t. cond t (Request asked ∷ filter (is_item_about y) rest)
-              (filter (is_item_about y) rest)) (ne_eqb asked.caller y (λ e. d (sym e))));
+          calls = others-still;
+          hand_of_others = λ y d. sym (ap (λ t. cond t (Request asked ∷ filter (is_item_of y) rest)
+              (filter (is_item_of y) rest)) (ne_eqb asked.caller y (λ e. d (sym e))));
           parcels_at_hand = λ parcel at. Contains-append_right (Request asked ∷ []) rest (Ending parcel) at;
+          whole = whole-goes-on script 1 w w' n [] sends c b asked.caller IsInHand place first.place_is same-caller refl
+              (to-be-made-there place r.routed) owes;
+          waiters_of_others = λ y d name. refl;
+          cancel_of_others = λ y d. refl;
+          owed_of_others = λ y d same h. cancel-if-same y owes _ _ refl same h;
           plain_taken = tt;
           plain_sent = r.plain;
           no_birth_taken = tt;
           no_birth_sent = r.no_birth;
           of_no_other = λ y d. tt;
           sent_of_no_other = r.of_no_other;
+          no_cancel_taken = λ y d. tt;
+          no_cancel_sent = λ y d. r.no_cancel y;
           may_be_sent = r.may_be;
           to_others = r.to_others;
         }
@@ -332,7 +410,8 @@ module _ (script : Script) (w : World) (asked : Asked) (rest : List Held) (b : B
     -- the same nodes are born
     pub routed-born : IsMore (is_born_in w) (is_born_in w')
     routed-born =
-        move-born script w w' hand rest b b.deed calls-now 1 n [] sends asked.caller (omega arith) high-one holds c move
+        move-born script w w' hand rest owes owes b moved 1 n [] sends [] asked.caller (omega arith) high-one holds c
+        move
 
     left-alone : (to sender : ℕ) → filter (is_about asked.caller to sender) (c.left to sender) ≡ []
     left-alone to sender =
@@ -340,19 +419,15 @@ module _ (script : Script) (w : World) (asked : Asked) (rest : List Held) (b : B
         (λ t s. filter-is-list-map (is_about asked.caller t s)) tt to sender
         ∙ in-no-stream to sender
 
-    read : {A : Type 0} (f : Node → A) → f n ≡ f (node_of w 1)
-        → f (node_of w asked.caller) ≡ f (node_of w' asked.caller)
-    read f same = sym (read-same script 1 w w' n [] sends [] c f same asked.caller)
-
     sight-now : SameCall (placed_at x asked.caller place (asked_of x first.call))
         (call_sight w' rest moved asked.caller)
     sight-now =
         record {
-          number = read (λ (m : Node). m.number) same-caller.number;
-          pid = read (λ (m : Node). m.pid) same-caller.pid;
-          stage = read (λ (m : Node). m.stage) same-caller.stage;
-          caller = read (λ (m : Node). m.caller) same-caller.caller;
-          leases = read (λ (m : Node). m.leases) same-caller.leases;
+          number = read (λ (m : Node). m.number) same-caller.number asked.caller;
+          pid = read (λ (m : Node). m.pid) same-caller.pid asked.caller;
+          stage = read (λ (m : Node). m.stage) same-caller.stage asked.caller;
+          caller = read (λ (m : Node). m.caller) same-caller.caller asked.caller;
+          leases = read (λ (m : Node). m.leases) same-caller.leases asked.caller;
           place = refl;
           alive = refl;
           call = sym (ap (λ t. if t then place else b.call asked.caller) (eq-eqb asked.caller asked.caller refl));
@@ -366,6 +441,8 @@ module _ (script : Script) (w : World) (asked : Asked) (rest : List Held) (b : B
           held = λ name. ap (λ a. only_if (is_held_at place name) (Request a)) (sym first.asked_is)
               ∙ sym (r.held name);
           hand = ap (λ t. only_if t (Request (asked_of x first.call))) (not-in-hand place r.routed) ∙ sym first.alone;
+          waiters = λ name. ap (λ t. only_if t (waiting_as (asked_of x first.call))) (no-wait-place place name r.routed)
+              ∙ sym (waits-nowhere name);
         }
 
     call-now : CallHolds script asked.caller (is_born_in w') (call_sight w' rest moved asked.caller)
@@ -373,6 +450,19 @@ module _ (script : Script) (w : World) (asked : Asked) (rest : List Held) (b : B
         call-stays script asked.caller (is_born_in w) (is_born_in w') _ _ routed-born sight-now
         (call-placed script asked.caller (is_born_in w) x asked (filter (is_item_about asked.caller) rest) place
         call-holds first r.routed r.home r.between)
+
+    -- ---- its withdrawal
+
+    cancel-now : CallHolds script asked.caller (is_born_in w') (call_sight w' rest moved asked.caller)
+        → CancelIf asked.caller owes (cancel_sight w' rest moved asked.caller)
+    cancel-now after =
+        let node : NodeHolds script b.pids (is_born_in w) asked.caller (node_of w asked.caller) =
+        holds.nodes asked.caller asks.low asks.high
+        in cancel-goes-behind script 1 w w' n [] sends c b asked.caller IsInHand place first.place_is same-caller hand
+        rest node.number (goes-from-hand place r.routed) (waits-not place r.routed) r.held_cancels
+        (sym (ap (λ t. cond t (Request asked ∷ filter (is_held_cancel_of asked.caller) rest)
+        (filter (is_held_cancel_of asked.caller) rest)) (no-held-cancel asked asked.caller asks.is_call)))
+        tt (r.no_cancel asked.caller) owes call-holds after (holds.cancels asked.caller asks.low asks.high)
 
     lease-same : (kind : Kind) (y : ℕ) → has_lease kind (calls-now y) ≡ has_lease kind (b.call y)
     lease-same kind y =
@@ -387,10 +477,10 @@ module _ (script : Script) (w : World) (asked : Asked) (rest : List Held) (b : B
     -- All holds after it, where it holds for the names.
     pub routed-keeps : ((name : Name)
         → NameHolds script b.pids (is_born_in w') name (name_sight script w' rest moved name))
-        → Holds script w' rest moved
+        → HoldsOwing script w' rest owes moved
     routed-keeps names =
-        call-move-keeps script w w' hand rest b b.deed calls-now 1 n [] sends asked.caller (omega arith) high-one holds
-        c move call-now names
+        call-move-keeps script w w' hand rest owes owes b moved 1 n [] sends [] asked.caller (omega arith) high-one
+        holds c move call-now (cancel-now call-now) names
         (λ kind. kind-stays (is_born_in w) (is_born_in w') _ _ routed-born
         (kind-left-alone script 1 w w' n [] sends [] c b.kernel b.kernel kind (λ number. refl)
         (ap (λ m. for_kind m kind) same-caller.leases) (routes.ranges_are kind) tt (r.no_lease kind))
@@ -401,16 +491,18 @@ module _ (script : Script) (w : World) (asked : Asked) (rest : List Held) (b : B
     -- ---- names
 
     -- what was on its way plays as before
-    plays-still : (name : Name) (y : ℕ) → plays calls-now name (c.left y 1) ≡ plays b.call name (c.left y 1)
-    plays-still name y =
-        steps-still script w w' hand rest b b.deed calls-now 1 n [] sends asked.caller (omega arith) high-one holds c
-        move y (left-alone y 1) name
+    plays-still : (used : Bool) (name : Name) (y : ℕ)
+        → plays used calls-now name (c.left y 1) ≡ plays used b.call name (c.left y 1)
+    plays-still used name y =
+        steps-still script w w' hand rest owes owes b moved 1 n [] sends [] asked.caller (omega arith) high-one holds c
+        move used y (left-alone y 1) name
 
-    goes-still : (name : Name) (y : ℕ)
-        → flat_map (range_steps_of calls-now name) (c.left y 1) ≡ flat_map (range_steps_of b.call name) (c.left y 1)
-    goes-still name y =
-        ranges-still script w w' hand rest b b.deed calls-now 1 n [] sends asked.caller (omega arith) high-one holds c
-        move y (left-alone y 1) name
+    goes-still : (used : Bool) (name : Name) (y : ℕ)
+        → flat_map (range_steps_of used calls-now name) (c.left y 1)
+        ≡ flat_map (range_steps_of used b.call name) (c.left y 1)
+    goes-still used name y =
+        ranges-still script w w' hand rest owes owes b moved 1 n [] sends [] asked.caller (omega arith) high-one holds c
+        move used y (left-alone y 1) name
 
     -- A name that no frame is about, and whose place is the same, keeps all that holds of it.
     pub name-not-routed : (name : Name) → place_of (directory_of w') name ≡ place_of (directory_of w) name
@@ -422,19 +514,21 @@ module _ (script : Script) (w : World) (asked : Asked) (rest : List Held) (b : B
         (record {
           directory = route-leaves asked.caller (directory_of w) (directory_of w') name routes same;
           used_is = refl;
+          part_is = refl;
           body_is = refl;
           deed_is = refl;
           held_is = ap (λ deeds. get_named deeds name) r.deeds;
           begins_is = λ holds_it comes. ap (λ stage. begin stage holds_it comes) same-caller.stage;
           hand_is = refl;
-          steps_are = plays-still name;
-          ranges_are = goes-still name;
+          steps_are = λ used. plays-still used name;
+          ranges_are = λ used. goes-still used name;
         }) tt away) (holds.names name)
 
     module _ (name : Name) (place_now : Option Place) (steps : ℕ → List PlayStep) (ranges : ℕ → List RangeStep)
         (is_place : place_of (directory_of w') name ≡ place_now) (none : BringsNothing name sends)
-        (is_steps : (y : ℕ) → plays calls-now name (sent 1 sends y 1) ≡ steps y)
-        (is_ranges : (y : ℕ) → flat_map (range_steps_of calls-now name) (sent 1 sends y 1) ≡ ranges y) where
+        (is_steps : (y : ℕ) → plays (is_used_name b.kernel name) calls-now name (sent 1 sends y 1) ≡ steps y)
+        (is_ranges : (y : ℕ)
+        → flat_map (range_steps_of (is_used_name b.kernel name) calls-now name) (sent 1 sends y 1) ≡ ranges y) where
       abbrev s : NameSight
       s = name_sight script w hand b name
 
@@ -453,23 +547,27 @@ module _ (script : Script) (w : World) (asked : Asked) (rest : List Held) (b : B
           (ap (λ stage. begin stage (is_some (get_named n.deeds name)) (comes_to script w' name y)) same-caller.stage
           ∙ ap (λ deeds. begin (stage_of w 1) (is_some (get_named deeds name)) (comes_to script w' name y)) r.deeds) y)
 
-      steps-same : (y : ℕ) → s.steps y ++ steps y ≡ plays calls-now name (frames_to w' y 1)
+      abbrev used : Bool
+      used = is_used_name b.kernel name
+
+      steps-same : (y : ℕ) → s.steps y ++ steps y ≡ plays used calls-now name (frames_to w' y 1)
       steps-same y =
-          sym (made-after script 1 w w' n [] sends [] c (λ t q fs. plays calls-now name fs)
+          sym (made-after script 1 w w' n [] sends [] c (λ t q fs. plays used calls-now name fs)
           (λ t q. flat_map-is-list-map _) y 1
-          ∙ ap (λ ss. ss ++ plays calls-now name (sent 1 sends y 1))
-          (plays-still name y
-          ∙ stayed script 1 w w' n [] sends [] c (λ t q fs. plays b.call name fs)
+          ∙ ap (λ ss. ss ++ plays used calls-now name (sent 1 sends y 1))
+          (plays-still used name y
+          ∙ stayed script 1 w w' n [] sends [] c (λ t q fs. plays used b.call name fs)
           (λ t q. flat_map-is-list-map _) tt y 1)
           ∙ ap (λ ss. s.steps y ++ ss) (is_steps y))
 
-      ranges-same : (y : ℕ) → s.ranges y ++ ranges y ≡ flat_map (range_steps_of calls-now name) (frames_to w' y 1)
+      ranges-same : (y : ℕ)
+          → s.ranges y ++ ranges y ≡ flat_map (range_steps_of used calls-now name) (frames_to w' y 1)
       ranges-same y =
-          sym (made-after script 1 w w' n [] sends [] c (λ t q fs. flat_map (range_steps_of calls-now name) fs)
+          sym (made-after script 1 w w' n [] sends [] c (λ t q fs. flat_map (range_steps_of used calls-now name) fs)
           (λ t q. flat_map-is-list-map _) y 1
-          ∙ ap (λ ss. ss ++ flat_map (range_steps_of calls-now name) (sent 1 sends y 1))
-          (goes-still name y
-          ∙ stayed script 1 w w' n [] sends [] c (λ t q fs. flat_map (range_steps_of b.call name) fs)
+          ∙ ap (λ ss. ss ++ flat_map (range_steps_of used calls-now name) (sent 1 sends y 1))
+          (goes-still used name y
+          ∙ stayed script 1 w w' n [] sends [] c (λ t q fs. flat_map (range_steps_of used b.call name) fs)
           (λ t q. flat_map-is-list-map _) tt y 1)
           ∙ ap (λ ss. s.ranges y ++ ss) (is_ranges y))
 
@@ -497,6 +595,7 @@ module _ (script : Script) (w : World) (asked : Asked) (rest : List Held) (b : B
             maker = sym maker-same;
             stays = stays-same;
             used = refl;
+            part = refl;
             body = refl;
             deed = refl;
             held = λ y. sym (read-same script 1 w w' n [] sends [] c (λ (m : Node). get_named m.deeds name)

@@ -20,13 +20,13 @@ use Rattle.node_model.specs.Kinds.{is_same_name, is_object, for_kind}
 use Rattle.node_model.specs.Directory.{Directory, Place, At, Coming, place_of, with_place, held_for, items_of, destination_of, is_known, is_parcel, is_parcel_with}
 use Rattle.world_model.specs.Node.{Node}
 use Rattle.world_model.specs.Step.{with_directory}
-use Rattle.world_model.specs.World.{World, node_count}
+use Rattle.world_model.specs.World.{World}
 use Rattle.world_laws.specs.Places.{CallPlace, IsHeld, Beside, call_in}
 use Rattle.world_laws.specs.Sights.{node_of, directory_of, is_born_in}
 use Rattle.world_laws.specs.Plays.{Hold, Has, Lacks, Done, PlayStep, Goes, steps_if, play_on, plays, is_there, is_has, is_call_on, believed}
 use Rattle.world_laws.specs.Names.{NameSight, name_sight, NameHolds, PlaysTo, RangeStep, IsSentThere, range_steps_of, leases_first, belief_of, maker_tells, IsItemFor, IsBoundRightly}
 use Rattle.world_laws.specs.Callers.{only_if, is_held_at, is_about, is_item_about, may_be_in}
-use Rattle.world_laws.specs.Invariant.{Holds, IsLeading, MayBe}
+use Rattle.world_laws.specs.Invariant.{IsLeading, MayBe, HoldsOwing}
 use Rattle.world_laws.proofs.Named.{name-cases, same-name, other-name}
 use Rattle.world_laws.proofs.Played.{play-append}
 use Rattle.world_laws.proofs.Sends.{frame_if}
@@ -36,7 +36,11 @@ use Rattle.world_laws.proofs.Frames.{ArePlain, BringNoBirth, BringNoLease}
 use Rattle.world_laws.proofs.LeftAlone.{AreNotAbout}
 use Rattle.rule_laws.proofs.Nodes.{node-with-directory}
 use Rattle.rule_laws.proofs.Places.{place-with-same, place-with-other}
-use Rattle.route_laws.proofs.hand.HandMoves.{DirectoryRoutes, IsRouted, BringsNothing, routed_sight, routed-keeps, routed-born, name-routed, name-not-routed, held-for-none}
+use Rattle.route_laws.proofs.hand.HandMoves.{DirectoryRoutes, IsRouted, BringsNothing, routed_sight, routed-keeps, routed-born, name-routed, name-not-routed, held-for-none, IsCallOf, about-caller, no-held-cancel}
+use Rattle.waiting_model.specs.Calls.{is_withdrawal}
+use Rattle.entry_laws.specs.Entering.{is_used_name}
+use Rattle.world_laws.specs.Cancels.{Owing, is_cancel_of, is_held_cancel_of}
+use Rattle.world_laws.proofs.Cancels.{is_item_of}
 
 -- ---- the directory
 
@@ -111,7 +115,7 @@ request-no-parcel asked parcel e = false≢true (ap is_parcel e)
 module _ (name : Name) (asked : Asked) (to : Option ℕ) (items : List Held) (d d' : Directory)
     (a : HoldsAlso name asked to items d d') where
   -- what a test that drops the call keeps
-  still-held : (test : Held → Bool) → test (Request asked) ≡ false → (m : Name)
+  pub still-held : (test : Held → Bool) → test (Request asked) ≡ false → (m : Name)
       → filter test (held_for d' m) ≡ filter test (held_for d m)
   still-held test drops m =
       elim (name-cases m name) [
@@ -126,24 +130,25 @@ module _ (name : Name) (asked : Asked) (to : Option ℕ) (items : List Held) (d 
       ]
 
   -- and one that keeps it and nothing else
-  now-held : filter (is_item_about asked.caller) (held_for d name) ≡ []
+  now-held : is_withdrawal asked.call ≡ false → filter (is_item_about asked.caller) (held_for d name) ≡ []
       → filter (is_item_about asked.caller) (held_for d' name) ≡ Request asked ∷ []
-  now-held none =
+  now-held is_call none =
       ap (λ o. filter (is_item_about asked.caller) (items_of o)) a.place_is
       ∙ filter-append (is_item_about asked.caller) items (Request asked ∷ [])
       ∙ ap (λ xs. xs ++ filter (is_item_about asked.caller) (Request asked ∷ []))
       (ap (filter (is_item_about asked.caller)) (sym a.were) ∙ none)
-      ∙ ap (λ t. cond t (Request asked ∷ []) []) (eq-eqb asked.caller asked.caller refl)
+      ∙ ap (λ t. cond t (Request asked ∷ []) []) (about-caller asked is_call)
 
   -- the call is held for the name, and for no other
-  pub held-there-now : ((m : Name) → filter (is_item_about asked.caller) (held_for d m) ≡ []) → (m : Name)
+  pub held-there-now : is_withdrawal asked.call ≡ false → ((m : Name) → filter (is_item_about asked.caller)
+      (held_for d m) ≡ []) → (m : Name)
       → filter (is_item_about asked.caller) (held_for d' m) ≡ only_if (is_held_at (IsHeld name) m) (Request asked)
-  held-there-now none m =
+  held-there-now is_call none m =
       elim (name-cases m name) [
         | inl e ↦
             subst (λ y. filter (is_item_about asked.caller) (held_for d' y)
             ≡ only_if (is_same_name name y) (Request asked)) (sym e)
-            (now-held (none name) ∙ ap (λ t. only_if t (Request asked)) (sym (same-name name name refl)))
+            (now-held is_call (none name) ∙ ap (λ t. only_if t (Request asked)) (sym (same-name name name refl)))
         | inr other ↦
             ap (λ o. filter (is_item_about asked.caller) (items_of o)) (a.others m other)
             ∙ none m
@@ -184,7 +189,7 @@ module _ (name : Name) (asked : Asked) (to : Option ℕ) (items : List Held) (d 
         same = record {
           partings_are = λ y. ap (λ ps. get ps y) a.partings_are;
           known_still = known-still;
-          held_of_others = λ y other m. still-held (is_item_about y) (ne_eqb asked.caller y (λ e. other (sym e))) m;
+          held_of_others = λ y other m. still-held (is_item_of y) (ne_eqb asked.caller y (λ e. other (sym e))) m;
           parcels_were = λ pid parcel. parcels-were (Proc pid) parcel;
           leads = a.leads;
         };
@@ -215,6 +220,7 @@ abbrev pub recall_to : Name → Option ℕ → List (ℕ × Frame)
 recall_to name None = []
 recall_to name (Some node) = (node, frames.Recall name) ∷ []
 
+-- the deed goes from that owner
 abbrev pub goes_from : Option ℕ → ℕ → List PlayStep
 goes_from None y = []
 goes_from (Some node) y = steps_if (nat_eq y node) Goes
@@ -302,6 +308,8 @@ module _ (script : Script) (pids : ℕ → ℕ) (born : ℕ → Bool) (name : Na
       (routed_sight x (Some (Coming to (items ++ Request asked ∷ []))) (goes_from recalls) no_ranges)
   name-held-for recalls to items asked f on =
       record {
+        parts = h.parts;
+        callers = h.callers;
         made = h.made;
         place_fits = h.place_fits;
         tables = h.tables;
@@ -356,6 +364,11 @@ module _ (name : Name) (asked : Asked) where
   of-no-call None y = tt
   of-no-call (Some node) y = (refl, tt)
 
+  no-cancel-recall : (recalls : Option ℕ) (y : ℕ)
+      → AllByRecursion (λ s. is_cancel_of y s.1 ≡ false) (recall_to name recalls)
+  no-cancel-recall None y = tt
+  no-cancel-recall (Some node) y = (refl, tt)
+
   may-be-recall : (recalls to : Option ℕ) (items : List Held) (place : Option Place) (script : Script) (born : ℕ → Bool)
       → IsHeldFor recalls to items place → (is_some recalls ≡ true → is_object name ≡ true)
       → AllByRecursion (λ s. MayBe script born s.0 1 s.1) (recall_to name recalls)
@@ -382,28 +395,28 @@ module _ (name : Name) (asked : Asked) where
         no_news = λ made. (refl, tt);
       }
 
-  goes-sent : (recalls : Option ℕ) (call : ℕ → CallPlace) (y : ℕ)
-      → plays call name (sent 1 (recall_to name recalls) y 1) ≡ goes_from recalls y
-  goes-sent None call y = refl
-  goes-sent (Some node) call y = by-test (nat_eq y node)
+  goes-sent : (recalls : Option ℕ) (used : Bool) (call : ℕ → CallPlace) (y : ℕ)
+      → plays used call name (sent 1 (recall_to name recalls) y 1) ≡ goes_from recalls y
+  goes-sent None used call y = refl
+  goes-sent (Some node) used call y = by-test (nat_eq y node)
     where
-      by-test : (t : Bool) → plays call name (frame_if t (frames.Recall name) ++ []) ≡ steps_if t Goes
+      by-test : (t : Bool) → plays used call name (frame_if t (frames.Recall name) ++ []) ≡ steps_if t Goes
       by-test true = ap (λ u. steps_if u Goes ++ []) (same-name name name refl)
       by-test false = refl
 
-  no-ranges-sent : (recalls : Option ℕ) (call : ℕ → CallPlace) (y : ℕ)
-      → flat_map (range_steps_of call name) (sent 1 (recall_to name recalls) y 1) ≡ no_ranges y
-  no-ranges-sent None call y = refl
-  no-ranges-sent (Some node) call y = by-test (nat_eq y node)
+  no-ranges-sent : (recalls : Option ℕ) (used : Bool) (call : ℕ → CallPlace) (y : ℕ)
+      → flat_map (range_steps_of used call name) (sent 1 (recall_to name recalls) y 1) ≡ no_ranges y
+  no-ranges-sent None used call y = refl
+  no-ranges-sent (Some node) used call y = by-test (nat_eq y node)
     where
       by-test : (t : Bool)
-          → flat_map (range_steps_of call name) (frame_if t (frames.Recall name) ++ []) ≡ no_ranges y
+          → flat_map (range_steps_of used call name) (frame_if t (frames.Recall name) ++ []) ≡ no_ranges y
       by-test true = refl
       by-test false = refl
 
 module _ (script : Script) (w : World) (asked : Asked) (rest : List Held) (b : Beside)
-    (holds : Holds script w (Request asked ∷ rest) b) (low : 1 ≤ asked.caller)
-    (high : asked.caller ≤ node_count script) (name : Name) (on : is_call_on name asked ≡ true)
+    {owes : Owing} (holds : HoldsOwing script w (Request asked ∷ rest) owes b) (asks : IsCallOf script asked)
+    (name : Name) (on : is_call_on name asked ≡ true)
     (home : may_be_in (IsHeld name) (home_of asked.pid asked.call) asked.call ≡ true)
     (recalls to : Option ℕ) (items : List Held) (f : IsHeldFor recalls to items (place_of (directory_of w) name))
     (object : is_some recalls ≡ true → is_object name ≡ true) (d' : Directory)
@@ -429,20 +442,24 @@ module _ (script : Script) (w : World) (asked : Asked) (rest : List Held) (b : B
         between = tt;
         frames = λ t s. no-call-taken name asked recalls t s;
         held = λ m. ap (λ d. filter (is_item_about asked.caller) (held_for d m)) directory-now
-            ∙ held-there-now name asked to items (directory_of w) d' a
-            (held-for-none script w asked rest b holds low high) m;
+            ∙ held-there-now name asked to items (directory_of w) d' a asks.is_call
+            (held-for-none script w asked rest b holds asks) m;
+        held_cancels = λ m. ap (λ d. filter (is_held_cancel_of asked.caller) (held_for d m)) directory-now
+            ∙ still-held name asked to items (directory_of w) d' a (is_held_cancel_of asked.caller)
+            (no-held-cancel asked asked.caller asks.is_call) m;
         caller = record { number = refl; pid = refl; stage = refl; caller = refl; leases = refl };
         deeds = refl;
         queue_keys = refl;
         set_keys = refl;
         node = node-with-directory script b.pids (is_born_in w) 1 (node_of w 1) d' refl
-            (holds.nodes 1 (omega arith) (omega (arith, low, high)));
+            (holds.nodes 1 (omega arith) (let low = asks.low in let high = asks.high in omega (arith, low, high)));
         directory = subst (λ d. DirectoryRoutes asked.caller (directory_of w) d) (sym directory-now)
             (holds-also-routes name asked to items (directory_of w) d' a);
         plain = plain-recall name asked recalls;
         no_birth = no-birth-recall name asked recalls;
         no_lease = no-lease-recall name asked recalls;
         of_no_other = λ y d. of-no-call name asked recalls y;
+        no_cancel = no-cancel-recall name asked recalls;
         may_be = may-be-recall name asked recalls to items (place_of (directory_of w) name) script (is_born_in w) f
             object;
         to_others = to-others-recall name asked recalls to items (place_of (directory_of w) name) f;
@@ -453,21 +470,22 @@ module _ (script : Script) (w : World) (asked : Asked) (rest : List Held) (b : B
   names m =
       elim (name-cases m name) [
         | inr d ↦
-            name-not-routed script w asked rest b holds low high (IsHeld name) w' n sends c is-routed m
+            name-not-routed script w asked rest b holds asks (IsHeld name) w' n sends c is-routed m
             (ap (λ z. place_of z m) directory-now ∙ a.others m d) (not-about-recall name asked recalls m d)
         | inl e ↦
             subst (λ y. NameHolds script b.pids (is_born_in w') y
             (name_sight script w' rest (record b { call = calls-now }) y)) (sym e)
             (name-stays script b.pids (is_born_in w) (is_born_in w') name _ _
-            (routed-born script w asked rest b holds low high (IsHeld name) w' n sends c is-routed)
-            (name-routed script w asked rest b holds low high (IsHeld name) w' n sends c is-routed name
+            (routed-born script w asked rest b holds asks (IsHeld name) w' n sends c is-routed)
+            (name-routed script w asked rest b holds asks (IsHeld name) w' n sends c is-routed name
             (Some (Coming to (items ++ Request asked ∷ []))) (goes_from recalls) no_ranges
             (ap (λ z. place_of z name) directory-now ∙ a.place_is) (brings-nothing name asked recalls)
-            (goes-sent name asked recalls calls-now) (no-ranges-sent name asked recalls calls-now))
+            (goes-sent name asked recalls (is_used_name b.kernel name) calls-now)
+            (no-ranges-sent name asked recalls (is_used_name b.kernel name) calls-now))
             (name-held-for script b.pids (is_born_in w) name
             (name_sight script w (Request asked ∷ rest) b name) (holds.names name) recalls to items asked f on))
       ]
 
   -- The call is held for the name.
-  pub holding-keeps : Holds script w' rest (record b { call = calls-now })
-  holding-keeps = routed-keeps script w asked rest b holds low high (IsHeld name) w' n sends c is-routed names
+  pub holding-keeps : HoldsOwing script w' rest owes (record b { call = calls-now })
+  holding-keeps = routed-keeps script w asked rest b holds asks (IsHeld name) w' n sends c is-routed names

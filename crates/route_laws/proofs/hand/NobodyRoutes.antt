@@ -1,84 +1,40 @@
--- The leader routes a call of another node on a name that nothing has.
-use Rattle.std.proofs.Common.{◌≡◌, ◌≢◌, ℕ, ◌≤◌, Bool, true, false, ◌&&◌, not, if◌then◌else◌, List, [], ◌∷◌, nat_eq, Option, Some, None, refl, ap, sym, subst, ◌∙◌, inl, inr, arith}
+-- The leader routes a call on a name that nothing has.
+use Rattle.std.proofs.Common.{◌≡◌, Bool, true, false, ◌&&◌, not, if◌then◌else◌, List, ◌∷◌, nat_eq, None, Some, refl, ap, sym, ◌∙◌, inl, inr}
 use Rattle.std.proofs.lemmas.Bool.{cases_eq, ne_eqb, false≢true}
-use Rattle.pico_base.specs.declared.call.Call.{Call}
-use Rattle.pico_base.specs.declared.call.Call.TheVariants as calls
 use Rattle.pico_base.specs.declared.call.Home.{Home}
-use Rattle.pico_base.specs.declared.call.Home.TheVariants as homes
 use Rattle.pico_base.specs.declared.numbers.Name.{Name}
-use Rattle.pico_base.specs.declared.reply.Reply.{Reply}
-use Rattle.pico_base.specs.declared.reply.Reply.TheVariants as replies
 use Rattle.pico_base.specs.declared.script.Script.{Script}
-use Rattle.pico_base.specs.Home.{home_of, home_of_get}
+use Rattle.pico_base.specs.Home.{home_of}
 use Rattle.rpc_frame.specs.declared.asked.Asked.{Asked}
-use Rattle.rpc_frame.specs.declared.frame.Frame.TheVariants as frames
-use Rattle.kernel_model.specs.Waiting.{is_waiting}
 use Rattle.node_model.specs.declared.held.Held.{Held}
 use Rattle.node_model.specs.declared.held.Held.TheVariants.{Request}
 use Rattle.node_model.specs.declared.route.Route.{Route}
 use Rattle.node_model.specs.declared.route.Route.TheVariants as routes
 use Rattle.node_model.specs.Directory.{Directory, place_of, maker, maker_stays, route, route_by}
-use Rattle.node_model.specs.Carrying.{is_served, makes_or_ends}
-use Rattle.node_model.specs.Serving.{name_for, name_in, no_such_name}
-use Rattle.world_model.specs.Node.{Node, under_way_as}
-use Rattle.world_model.specs.Step.{Step, send, enter, carry_out, reply_here}
-use Rattle.world_model.specs.World.{World, node_count, world_after}
+use Rattle.world_model.specs.Step.{Step}
+use Rattle.world_model.specs.World.{World, world_after}
 use Rattle.entry_laws.specs.Entering.{is_used_name}
-use Rattle.entry_laws.proofs.Fresh.{LeavesAll, nobody}
-use Rattle.kernel_model.specs.Fitting.{places_after}
-use Rattle.node_model.specs.Caller.{Caller, caller_place}
-use Rattle.node_model.specs.Entries.{entry_by}
-use Rattle.world_laws.specs.Places.{InAnswer, Beside, call_in}
-use Rattle.world_laws.specs.Sights.{node_of, directory_of, is_born_in}
+use Rattle.world_laws.specs.Places.{Beside}
+use Rattle.world_laws.specs.Sights.{directory_of, is_born_in}
+use Rattle.world_laws.specs.Callers.{is_on}
+use Rattle.world_laws.specs.Cancels.{Owing}
 use Rattle.world_laws.specs.Plays.{believed, placed_in, told}
 use Rattle.world_laws.specs.Names.{NameSight, name_sight, NameHolds, HasMakerThatStays, belief_of, maker_tells, is_nowhere}
-use Rattle.world_laws.specs.Invariant.{Holds}
-use Rattle.world_laws.proofs.Changes.{Changes}
-use Rattle.world_laws.proofs.Middles.{changes-further}
-use Rattle.route_laws.proofs.hand.Asks.{NeverWaits}
-use Rattle.route_laws.proofs.hand.Answering.{due-in-hand, may-make-in-hand, served-plain}
-use Rattle.route_laws.proofs.hand.Nobody.{unchanged-answered}
-use Rattle.route_laws.proofs.hand.Routes.{RouteKeeps, IsOn, leader-here, leader-number, routed-elsewhere}
+use Rattle.world_laws.specs.Invariant.{HoldsOwing}
+use Rattle.world_laws.proofs.Named.{same-name}
+use Rattle.route_laws.proofs.Owed.{HoldsAt}
+use Rattle.route_laws.proofs.hand.HandMoves.{IsCallOf}
+use Rattle.route_laws.proofs.hand.ReadRoutes.{HasRoute, is_carried_out}
+use Rattle.route_laws.proofs.hand.Routes.{IsOn, routed-elsewhere}
+use Rattle.route_laws.proofs.served.Before.{IsInHandAt, in-hand-at}
+use Rattle.route_laws.proofs.served.Nobody.{nobody_beside, nobody-keeps, plain-call, refused, refusal, whole-step}
+use Rattle.route_laws.proofs.served.Replies.{IsAtWork}
+use Rattle.route_laws.proofs.served.Unchanged.{is-carried, one_step, one-carried, one-moved}
 
--- ---- calls on a name are served
-
-abbrev is_on_a_name : Home → Bool
-is_on_a_name (homes.At name) = true
-is_on_a_name (homes.Removal name) = true
-is_on_a_name home = false
-
-makes-nothing : (pid : ℕ) (call : Call) → is_on_a_name (home_of pid call) ≡ true → makes_or_ends call ≡ false
-makes-nothing pid (calls.Fork block) h = absurd (false≢true h)
-makes-nothing pid (calls.Exit status) h = absurd (false≢true h)
-makes-nothing pid (calls.Killed sig) h = absurd (false≢true h)
-makes-nothing pid (calls.MsgGet key create excl) h = absurd (no-get key h)
-  where
-    no-get : (key : Option ℕ) → is_on_a_name (home_of_get key) ≡ true → ⊥
-    no-get None g = false≢true g
-    no-get (Some k) g = false≢true g
-makes-nothing pid (calls.SemGet key count create excl) h = absurd (no-get key h)
-  where
-    no-get : (key : Option ℕ) → is_on_a_name (home_of_get key) ≡ true → ⊥
-    no-get None g = false≢true g
-    no-get (Some k) g = false≢true g
-makes-nothing pid call h = refl
-
-on-a-name : (name : Name) (home : Home) → IsOn name home → is_on_a_name home ≡ true
-on-a-name name home (inl e) = ap is_on_a_name e
-on-a-name name home (inr e) = ap is_on_a_name e
-
--- a call on a name, in no form that may wait, is served
-pub on-name-served : (pid : ℕ) (call : Call) (name : Name) → IsOn name (home_of pid call) → is_waiting call ≡ false
-    → is_served call ≡ true
-on-name-served pid call name on at_once =
-    ap (λ t. not t && not (is_waiting call)) (makes-nothing pid call (on-a-name name (home_of pid call) on))
-    ∙ ap not at_once
-
--- on that name
-pub name-for-on : (pid : ℕ) (call : Call) (name : Name) → IsOn name (home_of pid call)
-    → name_for pid call ≡ Some name
-name-for-on pid call name (inl e) = ap (name_in pid) e
-name-for-on pid call name (inr e) = ap (name_in pid) e
+-- a call on a name is on it
+pub on-it : (name : Name) (home : Home) → IsOn name home → is_on name home ≡ true
+on-it name home (inl e) = ap (is_on name) e ∙ same-name name name refl
+on-it name home (inr e) = ap (is_on name) e ∙ same-name name name refl
 
 -- ---- a name that goes nowhere is unused
 
@@ -86,7 +42,8 @@ abbrev is_nobody : Route → Bool
 is_nobody routes.Nobody = true
 is_nobody r = false
 
-module _ (script : Script) (w : World) (hand : List Held) (b : Beside) (holds : Holds script w hand b) (name : Name)
+module _ (script : Script) (w : World) (hand : List Held) {owes : Owing} (b : Beside)
+    (holds : HoldsOwing script w hand owes b) (name : Name)
     (place : place_of (directory_of w) name ≡ None) (nowhere : route (directory_of w) name ≡ routes.Nobody) where
   abbrev d : Directory
   d = directory_of w
@@ -129,76 +86,40 @@ module _ (script : Script) (w : World) (hand : List Held) (b : Beside) (holds : 
 -- ---- the route
 
 module _ (script : Script) (v : World) (s : Step) (asked : Asked) (rest : List Held) (b : Beside)
-    (holds : Holds script (world_after v 1 s) (Request asked ∷ rest) b) (low : 1 ≤ asked.caller)
-    (high : asked.caller ≤ node_count script) (other : asked.caller ≢ 1) where
-  abbrev w : World
-  w = world_after v 1 s
-
+    (holds : HoldsAt script v 1 s (Request asked ∷ rest) b) (at : IsAtWork script (world_after v 1 s) 1)
+    (asks : IsCallOf script asked) (name : Name) (on : IsOn name (home_of asked.pid asked.call))
+    (place : place_of (directory_of (world_after v 1 s)) name ≡ None)
+    (nowhere : route (directory_of (world_after v 1 s)) name ≡ routes.Nobody) where
   abbrev hand : List Held
   hand = Request asked ∷ rest
 
-  abbrev caller : Caller
-  caller = (node_of w asked.caller).caller
+  in_hand : IsInHandAt script v 1 s asked rest b
+  in_hand = in-hand-at script v 1 s asked rest b holds asks
 
-  -- the caller's place moves on in the history
-  abbrev pub replied : Reply → Beside → Beside
-  replied reply beside =
-      record beside {
-        places = places_after script b.places (entry_by s.node.number asked.pid asked.call reply)
-            (caller_place script asked.caller caller);
-        call = call_in b.call asked.caller (InAnswer 1 reply);
+  unused : is_used_name b.kernel name ≡ false
+  unused = nobody-unused script (world_after v 1 s) hand b holds name place nowhere
+
+  on-name : is_on name (home_of asked.pid asked.call) ≡ true
+  on-name = on-it name (home_of asked.pid asked.call) on
+
+  -- A call on a number that names nothing is refused.
+  pub route-to-nobody : HasRoute script v s asked rest b
+  route-to-nobody =
+      record {
+        beside = nobody_beside script v 1 s asked rest b in_hand at asks name on-name unused;
+        keeps = record {
+          next = one_step script v 1 s asked rest b in_hand at asks
+              (refusal script v 1 s asked rest b in_hand at asks name on-name unused);
+          is_route = routed-elsewhere script v s asked rest b holds asks name routes.Nobody refl on nowhere
+              ∙ ap Some (one-carried script v 1 s asked rest b in_hand at asks
+              (refusal script v 1 s asked rest b in_hand at asks name on-name unused));
+          holds = nobody-keeps script v 1 s asked rest b in_hand at asks name on-name unused;
+        };
+        moved = one-moved script v 1 s asked rest b in_hand at asks
+            (refusal script v 1 s asked rest b in_hand at asks name on-name unused)
+            (refused script v 1 s asked rest b in_hand at asks name on-name unused)
+            (plain-call script v 1 s asked rest b in_hand at asks name on-name unused)
+            (whole-step script v 1 s asked rest b in_hand at asks name on-name unused) _
+            (is_carried_out (is-carried 1 asked.caller
+            (refusal script v 1 s asked rest b in_hand at asks name on-name unused)));
       }
-
-  abbrev answered : Reply → Step
-  answered reply =
-      send (enter s asked.pid asked.call reply) asked.caller (frames.Answer asked.ticket reply)
-
-  -- A reply to another node's call is on its way.
-  pub carried-out : (reply : Reply) → carry_out script s asked reply ≡ answered reply
-  carried-out reply =
-      ap (λ t. if t then reply_here script (enter s asked.pid asked.call reply) reply
-      (under_way_as s.node asked.ticket) else answered reply)
-      (ne_eqb asked.caller s.node.number (λ e. other (e ∙ leader-number script v s asked rest b holds low high)))
-
-  -- what it changes
-  pub answer-changes : (reply : Reply)
-      → Changes script 1 w (world_after v 1 (answered reply)) (node_of w 1) []
-      ((asked.caller, frames.Answer asked.ticket reply) ∷ [])
-      (entry_by s.node.number asked.pid asked.call reply ∷ [])
-  answer-changes reply =
-      subst (λ (m : Node). Changes script 1 w (world_after v 1 (answered reply)) m []
-      ((asked.caller, frames.Answer asked.ticket reply) ∷ [])
-      (entry_by s.node.number asked.pid asked.call reply ∷ []))
-      (sym (leader-here script v s asked rest b holds low high))
-      (changes-further script v 1 s (answered reply) ((asked.caller, frames.Answer asked.ticket reply) ∷ [])
-      (entry_by s.node.number asked.pid asked.call reply ∷ []) holds.shape (omega arith) (omega (arith, low, high))
-      (record { low = low; high = high }, tt) (record { sends_are = refl; entries_are = refl }))
-
-  module _ (never : NeverWaits script) (name : Name) (on : IsOn name (home_of asked.pid asked.call))
-      (place : place_of (directory_of w) name ≡ None) (nowhere : route (directory_of w) name ≡ routes.Nobody) where
-    served : is_served asked.call ≡ true
-    served =
-        on-name-served asked.pid asked.call name on
-        (never asked.caller caller asked.call (due-in-hand script w asked rest b holds low high))
-
-    abbrev reply : Reply
-    reply = replies.Fail (no_such_name name)
-
-    -- the kernel refuses it, and that changes nothing else
-    pub refused : LeavesAll b.kernel asked.pid asked.call reply
-    refused =
-        nobody b.kernel asked.pid asked.call name (may-make-in-hand script w asked rest b holds low high) served
-        (name-for-on asked.pid asked.call name on) (nobody-unused script w hand b holds name place nowhere)
-
-    -- A call on a number that names nothing is refused, and the reply is on its way.
-    pub route-to-nobody : RouteKeeps script v s asked rest
-        (replied reply (record b { kernel = refused.next }))
-    route-to-nobody =
-        record {
-          next = answered reply;
-          is_route = routed-elsewhere script v s asked rest b holds low high name routes.Nobody refl on nowhere
-              ∙ ap Some (carried-out reply);
-          holds = unchanged-answered script w asked rest b holds low high reply refused
-              (served-plain asked.call served) other s.node.number (world_after v 1 (answered reply))
-              (answer-changes reply);
-        }

@@ -15,9 +15,11 @@ use Rattle.world_laws.specs.Places.{Beside}
 use Rattle.world_laws.specs.Sights.{node_of, frames_to, directory_of, is_born_in}
 use Rattle.world_laws.specs.Plays.{Hold, Has, Lacks, begin, brings_checkpoint, play, plays, is_has, is_there, believed}
 use Rattle.world_laws.specs.Names.{NameSight, name_sight, NameHolds, PlaysTo, comes_to, belief_of, maker_tells, forker}
-use Rattle.world_laws.specs.Invariant.{Holds, IsShaped}
+use Rattle.world_laws.specs.Invariant.{IsShaped, HoldsOwing}
 use Rattle.world_laws.specs.Ranges.{kind_sight, KindHolds}
 use Rattle.rule_laws.proofs.Suggestions.{born-in-range}
+use Rattle.world_laws.specs.Cancels.{Owing}
+use Rattle.entry_laws.specs.Entering.{is_used_name}
 
 module _ (script : Script) (w : World) (s : IsShaped script w) (x : ℕ) (past : node_count script < x) where
   -- behind the last node is none
@@ -54,8 +56,8 @@ slice-has xs i h g = (i, slice_get_within xs i h g, get_or_from_slice_get xs i h
 some-hold : (a c : Hold) → Some a ≡ Some c → c ≡ a
 some-hold a c h = cc
 
-module _ (script : Script) (w : World) (hand : List Held) (b : Beside) (holds : Holds script w hand b) (name : Name)
-    (h : ℕ) where
+module _ (script : Script) (w : World) (hand : List Held) (b : Beside) {owes : Owing}
+    (holds : HoldsOwing script w hand owes b) (name : Name) (h : ℕ) where
   abbrev x : NameSight
   x = name_sight script w hand b name
 
@@ -70,7 +72,7 @@ module _ (script : Script) (w : World) (hand : List Held) (b : Beside) (holds : 
         ∙ ap (λ t. if t then Has else Lacks) (and-false (not (nat_eq (forker script h) 1)))
 
     steps-nowhere : x.steps h ≡ []
-    steps-nowhere = ap (plays b.call name) (nothing-to script w holds.shape h past 1)
+    steps-nowhere = ap (plays (is_used_name b.kernel name) b.call name) (nothing-to script w holds.shape h past 1)
 
   -- an owner other than the leader is a node
   pub owner-in-range : place_of (directory_of w) name ≡ Some (At h) → 2 ≤ h → h ≤ node_count script

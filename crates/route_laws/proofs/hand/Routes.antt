@@ -31,7 +31,6 @@ use Rattle.world_laws.specs.Sights.{node_of, directory_of, is_born_in}
 use Rattle.world_laws.specs.Plays.{is_home_on}
 use Rattle.world_laws.specs.Callers.{may_be_in}
 use Rattle.world_laws.specs.Families.{NodeHolds}
-use Rattle.world_laws.specs.Invariant.{Holds}
 use Rattle.world_laws.proofs.Named.{same-name}
 use Rattle.world_laws.proofs.Sends.{AreToNodes}
 use Rattle.world_laws.proofs.Changes.{Changes}
@@ -40,14 +39,16 @@ use Rattle.rule_laws.proofs.Places.{place-with-same}
 use Rattle.route_laws.proofs.hand.Owners.{owner-in-range, maker-in-range}
 use Rattle.route_laws.proofs.hand.Forwards.{forward-keeps}
 use Rattle.route_laws.proofs.hand.Holdings.{held-also, held-first, holding-keeps}
+use Rattle.route_laws.proofs.Owed.{HoldsAt}
+use Rattle.route_laws.proofs.hand.HandMoves.{IsCallOf}
 
 -- In the middle of an event of the leader the call has a route, and the invariant holds after it, with the rest in hand
--- and with this beside the world.
+-- and with this beside the world, but for the strike that the step owes.
 pub record RouteKeeps (script : Script) (v : World) (s : Step) (asked : Asked) (rest : List Held) (b : Beside) : Type 0
   where
     pub next : Step
     pub is_route : route_call script s asked ≡ Some next
-    pub holds : Holds script (world_after v 1 next) rest b
+    pub holds : HoldsAt script v 1 next rest b
 
 -- ---- homes
 
@@ -116,8 +117,7 @@ no-recall script s name asked r h = refl
 -- ---- the middle of the event
 
 module _ (script : Script) (v : World) (s : Step) (asked : Asked) (rest : List Held) (b : Beside)
-    (holds : Holds script (world_after v 1 s) (Request asked ∷ rest) b) (low : 1 ≤ asked.caller)
-    (high : asked.caller ≤ node_count script) where
+    (holds : HoldsAt script v 1 s (Request asked ∷ rest) b) (asks : IsCallOf script asked) where
   abbrev w : World
   w = world_after v 1 s
 
@@ -131,7 +131,7 @@ module _ (script : Script) (v : World) (s : Step) (asked : Asked) (rest : List H
   placed place = record b { call = call_in b.call asked.caller place }
 
   high-one : 1 ≤ node_count script
-  high-one = omega (arith, low, high)
+  high-one = let low = asks.low in let high = asks.high in omega (arith, low, high)
 
   changes-now : (t : Step) (sends : List (ℕ × Frame)) → GrowsBy s t sends [] → AreToNodes (node_count script) sends
       → Changes script 1 w (world_after v 1 t) t.node [] sends []
@@ -195,7 +195,7 @@ module _ (script : Script) (v : World) (s : Step) (asked : Asked) (rest : List H
             place
             ∙ ap (λ t. if t then serve_asked script s name asked else Some (forward s h asked))
             (ne_eqb h s.node.number (λ e. other (e ∙ leader-number)));
-        holds = forward-keeps script w asked rest b holds low high name (is-home-on name home (inl on)) true h low_owner
+        holds = forward-keeps script w asked rest b holds asks name (is-home-on name home (inl on)) true h low_owner
             (ap (λ z. may_be_in (SentByPlace h) z asked.call) on) place (world_after v 1 (forward s h asked))
             (forward-changes true h low_to
             (owner-in-range script w (Request asked ∷ rest) b holds name h place low_owner));
@@ -219,8 +219,8 @@ module _ (script : Script) (v : World) (s : Step) (asked : Asked) (rest : List H
       in record {
         next = forward s h asked;
         is_route = routed-elsewhere name (routes.Range h) refl on (range-is name h place makes stays_there other);
-        holds = forward-keeps script w asked rest b holds low high name (is-home-on name home on) false h
-            (omega (arith, low_to, other)) (may-go-by-range name home asked.call h on) makes
+        holds = forward-keeps script w asked rest b holds asks name (is-home-on name home on) false h
+            (omega (arith, low_to, other)) (may-go-by-range name home asked.call h on) (makes, place)
             (world_after v 1 (forward s h asked)) (forward-changes false h range.0 range.1);
       }
 
@@ -234,7 +234,7 @@ module _ (script : Script) (v : World) (s : Step) (asked : Asked) (rest : List H
         next = after;
         is_route = routed-elsewhere name routes.Coming refl on
             (ap (λ o. route_by o (maker_stays d (maker d name)) (maker d name)) place);
-        holds = holding-keeps script w asked rest b holds low high name (is-home-on name home on)
+        holds = holding-keeps script w asked rest b holds asks name (is-home-on name home on)
             (may-be-held name home asked.call on) None to items place (λ e. absurd (false≢true e)) _
             (held-also d name asked to items holds.leading place) (world_after v 1 after)
             (subst (λ (m : Node). Changes script 1 w (world_after v 1 after) m [] [] []) node-is
@@ -261,7 +261,7 @@ module _ (script : Script) (v : World) (s : Step) (asked : Asked) (rest : List H
             ∙ ap (λ o. remove_by script s name asked (route_by o (maker_stays d (maker d name)) (maker d name))) place
             ∙ ap (λ t. if t then remove_here script s name asked else Some after)
             (ne_eqb h s.node.number (λ e. other (e ∙ leader-number)));
-        holds = holding-keeps script w asked rest b holds low high name (is-home-on name home (inr on))
+        holds = holding-keeps script w asked rest b holds asks name (is-home-on name home (inr on))
             (may-be-held name home asked.call (inr on)) (Some h) None []
             (record { low = low_owner; place_is = place; to_nobody = refl; none_held = refl })
             (λ e. removal-of-object asked.pid asked.call name on) _ (held-first d name asked h holds.leading place)

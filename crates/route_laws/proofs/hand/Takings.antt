@@ -25,7 +25,7 @@ use Rattle.world_laws.specs.Places.{CallPlace, IsInHand, Beside, call_in}
 use Rattle.world_laws.specs.Sights.{node_of, frames_to, directory_of, stage_of, is_born_in}
 use Rattle.world_laws.specs.Plays.{begin, finds_place, has_any, is_checkpoint_of, placed_in, plays}
 use Rattle.world_laws.specs.Names.{NameHolds, comes_to, forker, held_at, name_sight, range_steps_of}
-use Rattle.world_laws.specs.Callers.{CallSight, call_sight, CallHolds, HasCall, HasCallOrNone, IsToBeMade, IsJustThere, asked_of, only_if, is_in_stream, frame_at, is_held_at, is_about, is_item_about, is_end_place}
+use Rattle.world_laws.specs.Callers.{CallSight, call_sight, CallHolds, HasCall, HasCallOrNone, IsToBeMade, IsJustThere, asked_of, only_if, is_in_stream, frame_at, is_held_at, is_about, is_item_about, is_end_place, is_waiter_of, is_waiting_at}
 use Rattle.world_laws.specs.Ranges.{lease_in, has_lease}
 use Rattle.world_laws.specs.Families.{NodeHolds}
 use Rattle.world_laws.specs.Invariant.{Holds}
@@ -35,8 +35,16 @@ use Rattle.world_laws.proofs.Frames.{concerns, is_plain}
 use Rattle.world_laws.proofs.LeftAlone.{SameCaller, same-directory, name-left-alone, kind-left-alone, few-still}
 use Rattle.world_laws.proofs.Steps.{Heads, world_without, changes-by-take}
 use Rattle.world_laws.proofs.Heads.{rest-stays, others-stay}
-use Rattle.rule_laws.proofs.CallMoves.{IsCallMove, same-but-call, call-move-keeps, move-born, steps-still, ranges-still}
-use Rattle.route_laws.proofs.hand.HandMoves.{placed_at}
+use Rattle.rule_laws.proofs.CallMoves.{IsCallMove, same-but-call, call-move-keeps, move-born, steps-still, ranges-still, cancel-if-same}
+use Rattle.route_laws.proofs.hand.HandMoves.{placed_at, about-caller, no-held-cancel}
+use Rattle.waiting_model.specs.Calls.{is_withdrawal}
+use Rattle.entry_laws.specs.Entering.{is_used_name}
+use Rattle.node_model.specs.Bodies.{waiters_of}
+use Rattle.node_model.specs.Serving.{waiting_as}
+use Rattle.world_laws.specs.Cancels.{CancelIf, Nothing, cancel_sight, is_cancel_of, is_held_cancel_of}
+use Rattle.world_laws.proofs.Pairs.{goes_on}
+use Rattle.world_laws.proofs.Wholes.{is_to_be_made}
+use Rattle.route_laws.proofs.Onwards.{cancel-goes-behind, whole-goes-on}
 
 -- the call that a frame brings back to the leader: it was in this frame alone, and it is still to be made
 pub record IsTakenUp (script : Script) (w : World) (b : Beside) (q : ℕ) (frame : Frame) (asked : Asked) : Type 0 where
@@ -49,6 +57,10 @@ pub record IsTakenUp (script : Script) (w : World) (b : Beside) (q : ℕ) (frame
   pub for_others : is_for_others (home_of asked.pid asked.call) ≡ true
   pub to_be_made : IsToBeMade script asked.caller (call_sight w [] b asked.caller) call
   -- where it is
+  pub is_call : is_withdrawal asked.call ≡ false
+  pub goes : goes_on (b.call asked.caller) IsInHand ≡ true
+  pub is_made_yet : is_to_be_made (b.call asked.caller) ≡ true
+  pub no_waiter : (name : Name) → is_waiting_at (b.call asked.caller) name ≡ false
   pub not_end : is_end_place (b.call asked.caller) ≡ false
   pub no_lease : (kind : Kind) → has_lease kind (b.call asked.caller) ≡ false
   pub no_item : (name : Name) → is_held_at (b.call asked.caller) name ≡ false
@@ -60,14 +72,15 @@ pub record IsTakenUp (script : Script) (w : World) (b : Beside) (q : ℕ) (frame
   pub of_no_other : (y : ℕ) → y ≢ asked.caller → is_about y 1 q frame ≡ false
   pub plain : is_plain frame ≡ true
   pub no_birth : is_checkpoint frame ≡ false
+  pub no_cancel : (y : ℕ) → is_cancel_of y frame ≡ false
   pub brings_no_lease : (kind : Kind) → lease_in kind frame ≡ []
 
 -- a frame that is nothing for the name but news
-pub record BringsNews (call : ℕ → CallPlace) (name : Name) (frame : Frame) : Type 0 where
+pub record BringsNews (used : Bool) (call : ℕ → CallPlace) (name : Name) (frame : Frame) : Type 0 where
   pub no_deed : filter (brings name) (frame ∷ []) ≡ []
   pub no_checkpoint : filter (is_checkpoint_of name) (frame ∷ []) ≡ []
-  pub no_steps : plays call name (frame ∷ []) ≡ []
-  pub no_ranges : flat_map (range_steps_of call name) (frame ∷ []) ≡ []
+  pub no_steps : plays used call name (frame ∷ []) ≡ []
+  pub no_ranges : flat_map (range_steps_of used call name) (frame ∷ []) ≡ []
   pub no_place : placed_in name (frame ∷ []) ≡ []
 
 -- the leader is as it was but for its cache
@@ -174,7 +187,11 @@ module _ (script : Script) (w : World) (b : Beside) (holds : Holds script w [] b
   held-nowhere name =
       just-there.held_for_names name ∙ ap (λ t. only_if t (Request (asked_of x u.call))) (u.no_item name)
 
-  move : IsCallMove script w next [] hand b b.deed calls-now 1 n takes [] p
+  waits-nowhere : (name : Name) → filter (is_waiter_of p) (waiters_of (b.body name)) ≡ []
+  waits-nowhere name =
+      just-there.waiting name ∙ ap (λ t. only_if t (waiting_as (asked_of x u.call))) (u.no_waiter name)
+
+  move : IsCallMove script w next [] hand Nothing Nothing b moved 1 n takes [] p
   move =
       record {
         stage = same-caller.stage;
@@ -191,18 +208,25 @@ module _ (script : Script) (w : World) (b : Beside) (holds : Holds script w [] b
           | inl none ↦ none
           | inr new ↦ absurd (request-no-parcel asked parcel new)
         ];
+        whole = whole-goes-on script 1 w next n takes [] changes b p (b.call p) IsInHand refl same-caller u.is_made_yet
+            refl Nothing;
+        waiters_of_others = λ y d name. refl;
+        cancel_of_others = λ y d. refl;
+        owed_of_others = λ y d same h. cancel-if-same y Nothing _ _ refl same h;
         plain_taken = (u.plain, tt);
         plain_sent = tt;
         no_birth_taken = (u.no_birth, tt);
         no_birth_sent = tt;
         of_no_other = λ y d. (u.of_no_other y d, tt);
         sent_of_no_other = λ y d. tt;
+        no_cancel_taken = λ y d. (u.no_cancel y, tt);
+        no_cancel_sent = λ y d. tt;
         may_be_sent = tt;
         to_others = tt;
       }
 
   more : IsMore (is_born_in w) (is_born_in next)
-  more = move-born script w next [] hand b b.deed calls-now 1 n takes [] p h.low h.high holds changes move
+  more = move-born script w next [] hand Nothing Nothing b moved 1 n takes [] [] p h.low h.high holds changes move
 
   read : {A : Type 0} (f : Node → A) → f n ≡ f (node_of w 1) → f (node_of w p) ≡ f (node_of next p)
   read f e = sym (read-same script 1 w next n takes [] [] changes f e p)
@@ -224,7 +248,8 @@ module _ (script : Script) (w : World) (b : Beside) (holds : Holds script w [] b
         held = λ name. sym (ap (λ d. filter (is_item_about p) (held_for d name)) same-directory-now
             ∙ held-nowhere name);
         hand = ap (λ a. Request a ∷ []) (sym u.asked_is)
-            ∙ sym (ap (λ t. cond t (Request asked ∷ []) []) (eq-eqb p p refl));
+            ∙ sym (ap (λ t. cond t (Request asked ∷ []) []) (about-caller asked u.is_call));
+        waiters = λ name. sym (waits-nowhere name);
       }
 
   abbrev in-hand : CallSight
@@ -244,12 +269,14 @@ module _ (script : Script) (w : World) (b : Beside) (holds : Holds script w [] b
                 in_streams = λ to sender. refl;
                 held_for_names = λ name. refl;
                 in_hand = refl;
+                waiting = λ name. refl;
               };
               home = subst (λ (a : Asked). is_for_others (home_of a.pid a.call) ≡ true) u.asked_is u.for_others;
               used_up = tt;
               between = tt;
               so_far = still-to-be-made;
               at_work = has.at_work;
+              started = has.started;
               tickets = has.tickets;
               try_left = has.try_left;
             });
@@ -258,6 +285,15 @@ module _ (script : Script) (w : World) (b : Beside) (holds : Holds script w [] b
 
   call-now : CallHolds script p (is_born_in next) (call_sight next hand moved p)
   call-now = call-stays script p (is_born_in w) (is_born_in next) _ _ more sight-now call-in-hand
+
+  cancel-now : CancelIf p Nothing (cancel_sight next hand moved p)
+  cancel-now =
+      let node : NodeHolds script b.pids (is_born_in w) p (node_of w p) = holds.nodes p u.low u.high
+      in cancel-goes-behind script 1 w next n takes [] changes b p (b.call p) IsInHand refl same-caller [] hand
+      node.number
+      u.goes refl (λ name. ap (λ d. filter (is_held_cancel_of p) (held_for d name)) same-directory-now)
+      (ap (λ t. cond t (Request asked ∷ []) []) (no-held-cancel asked p u.is_call)) (u.no_cancel p, tt) tt Nothing
+      call-holds call-now (holds.cancels p u.low u.high)
 
   lease-same : (kind : Kind) (y : ℕ) → has_lease kind (calls-now y) ≡ has_lease kind (b.call y)
   lease-same kind y =
@@ -277,19 +313,21 @@ module _ (script : Script) (w : World) (b : Beside) (holds : Holds script w [] b
       (record {
         directory = same-directory (directory_of w) (directory_of next) same-directory-now m;
         used_is = refl;
+        part_is = refl;
         body_is = refl;
         deed_is = refl;
         held_is = ap (λ deeds. get_named deeds m) same.deeds;
         begins_is = λ holds_it comes. ap (λ stage. begin stage holds_it comes) same-caller.stage;
         hand_is = refl;
-        steps_are = λ y. steps-still script w next [] hand b b.deed calls-now 1 n takes [] p h.low h.high holds changes
-            move y (left-alone y 1) m;
-        ranges_are = λ y. ranges-still script w next [] hand b b.deed calls-now 1 n takes [] p h.low h.high holds
-            changes move y (left-alone y 1) m;
+        steps_are = λ used y. steps-still script w next [] hand Nothing Nothing b moved 1 n takes [] [] p h.low h.high
+            holds changes move used y (left-alone y 1) m;
+        ranges_are = λ used y. ranges-still script w next [] hand Nothing Nothing b moved 1 n takes [] [] p h.low h.high
+            holds changes move used y (left-alone y 1) m;
       }) (away, tt) tt) (holds.names m)
 
   -- A name that the frame brings news of and nothing else, and that is known, keeps all that holds of it.
-  pub name-news-taken : (m : Name) → is_some (place_of (directory_of w) m) ≡ true → BringsNews b.call m frame
+  pub name-news-taken : (m : Name) → is_some (place_of (directory_of w) m) ≡ true → BringsNews
+      (is_used_name b.kernel m) b.call m frame
       → NameHolds script b.pids (is_born_in next) m (name_sight script next hand moved m)
   name-news-taken m known k =
       name-stays script b.pids (is_born_in w) (is_born_in next) m
@@ -300,6 +338,7 @@ module _ (script : Script) (w : World) (b : Beside) (holds : Holds script w [] b
         maker = sym (ap (λ d. maker d m) same-directory-now);
         stays = λ y. sym (ap (λ d. stays d y) same-directory-now);
         used = refl;
+        part = refl;
         body = refl;
         deed = refl;
         held = λ y. sym (read-same script 1 w next n takes [] [] changes (λ (z : Node). get_named z.deeds m)
@@ -309,23 +348,25 @@ module _ (script : Script) (w : World) (b : Beside) (holds : Holds script w [] b
         kept = λ pid. sym (ap (λ d. filter (is_parcel_with m) (held_for d (Proc pid))) same-directory-now);
         hand = refl;
         begins = begins-same;
-        steps = λ y. sym (only-stayed script 1 w next n takes [] [] changes (λ t s fs. plays calls-now m fs)
+        steps = λ y. sym (only-stayed script 1 w next n takes [] [] changes (λ t s fs. plays used calls-now m fs)
             (λ t s. flat_map-is-list-map _) tt y 1
-            ∙ steps-still script w next [] hand b b.deed calls-now 1 n takes [] p h.low h.high holds changes move y
-            (left-alone y 1) m
-            ∙ stayed script 1 w next n takes [] [] changes (λ t s fs. plays b.call m fs)
+            ∙ steps-still script w next [] hand Nothing Nothing b moved 1 n takes [] [] p h.low h.high holds changes
+            move used y (left-alone y 1) m
+            ∙ stayed script 1 w next n takes [] [] changes (λ t s fs. plays used b.call m fs)
             (λ t s. flat_map-is-list-map _) (k.no_steps, tt) y 1);
         ranges = λ y. sym (only-stayed script 1 w next n takes [] [] changes
-            (λ t s fs. flat_map (range_steps_of calls-now m) fs) (λ t s. flat_map-is-list-map _) tt y 1
-            ∙ ranges-still script w next [] hand b b.deed calls-now 1 n takes [] p h.low h.high holds changes move y
-            (left-alone y 1) m
-            ∙ stayed script 1 w next n takes [] [] changes (λ t s fs. flat_map (range_steps_of b.call m) fs)
+            (λ t s fs. flat_map (range_steps_of used calls-now m) fs) (λ t s. flat_map-is-list-map _) tt y 1
+            ∙ ranges-still script w next [] hand Nothing Nothing b moved 1 n takes [] [] p h.low h.high holds changes
+            move used y (left-alone y 1) m
+            ∙ stayed script 1 w next n takes [] [] changes (λ t s fs. flat_map (range_steps_of used b.call m) fs)
             (λ t s. flat_map-is-list-map _) (k.no_ranges, tt) y 1);
         placed = λ y. sym (made-same script 1 w next n takes [] [] changes (λ t s fs. placed_in m fs)
             (λ t s. flat_map-is-list-map _) (k.no_place, tt) tt 1 y);
         news = λ y. refl;
       })
       (record {
+        parts = old.parts;
+        callers = old.callers;
         made = old.made;
         place_fits = old.place_fits;
         tables = old.tables;
@@ -345,6 +386,9 @@ module _ (script : Script) (w : World) (b : Beside) (holds : Holds script w [] b
         items = old.items;
       })
     where
+      used : Bool
+      used = is_used_name b.kernel m
+
       old : NameHolds script b.pids (is_born_in w) m (name_sight script w [] b m)
       old = holds.names m
 
@@ -367,8 +411,8 @@ module _ (script : Script) (w : World) (b : Beside) (holds : Holds script w [] b
   pub taken-keeps : ((m : Name) → NameHolds script b.pids (is_born_in next) m (name_sight script next hand moved m))
       → Holds script next hand moved
   taken-keeps names =
-      call-move-keeps script w next [] hand b b.deed calls-now 1 n takes [] p h.low h.high holds changes move call-now
-      names
+      call-move-keeps script w next [] hand Nothing Nothing b moved 1 n takes [] [] p h.low h.high holds changes move
+      call-now cancel-now names
       (λ kind. kind-stays (is_born_in w) (is_born_in next) _ _ more
       (kind-left-alone script 1 w next n takes [] [] changes b.kernel b.kernel kind (λ number. refl)
       (ap (λ m. for_kind m kind) same-caller.leases)

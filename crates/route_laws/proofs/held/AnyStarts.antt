@@ -14,8 +14,7 @@ use Rattle.world_laws.specs.Invariant.{Holds}
 use Rattle.rule_laws.proofs.own.Moved.{AfterRun}
 use Rattle.rule_laws.proofs.own.OwnCases.{Keeps}
 use Rattle.rule_laws.proofs.own.Runs.{Starts}
-use Rattle.route_laws.proofs.hand.Asks.{NeverWaits}
-use Rattle.route_laws.specs.Ready.{IsReady}
+use Rattle.route_laws.specs.Ready.{HasFewNodes, IsReady}
 use Rattle.route_laws.proofs.first.OwnStarts.{first-starts}
 use Rattle.route_laws.proofs.held.OtherStarts.{others-start}
 
@@ -27,12 +26,12 @@ StartsForOthers script w b p =
 
 -- Any node starts any such call.
 pub any-starts : (script : Script) → IsSoundScript script → (w : World) (b : Beside) → Holds script w [] b
-    → NeverWaits script → IsReady (node_of w 1) → (p : ℕ) → 1 ≤ p → StartsForOthers script w b p
-any-starts script sound w b holds never ready p low =
+    → HasFewNodes script → IsReady (node_of w 1) → (p : ℕ) → 1 ≤ p → StartsForOthers script w b p
+any-starts script sound w b holds few ready p low =
     elim (cases_eq p 1) [
       | inl e ↦
           subst (λ y. StartsForOthers script w b y) (sym e)
-          (λ high can s others. first-starts script sound w b holds high can s never ready others)
+          (λ high can s others. first-starts script sound w b holds high can s few ready others)
       | inr other ↦
-          λ high can s others. others-start script sound w b holds p low high can s other never others
+          λ high can s others. others-start script sound w b holds p low high can s other few others
     ]

@@ -30,6 +30,7 @@ use Rattle.entry_laws.proofs.Fresh.{LeavesAll}
 use Rattle.entry_laws.proofs.Keyed.{MakesBound, finds-queue, finds-set, found_set, makes-keyed-queue, makes-keyed-set, refuses-queue, refuses-set, refuses-size}
 use Rattle.node_model.specs.declared.held.Held.{Held}
 use Rattle.node_model.specs.Bodies.{AQueue, ASet, Body}
+use Rattle.waiting_model.specs.Waiters.{unawaited}
 use Rattle.node_model.specs.Directory.{Directory, has_more, place_name}
 use Rattle.node_model.specs.Kinds.{number_of, put_named}
 use Rattle.world_model.specs.Node.{Node}
@@ -40,7 +41,8 @@ use Rattle.world_model.specs.World.{World, node_count}
 use Rattle.world_laws.specs.Places.{Beside}
 use Rattle.world_laws.specs.Sights.{directory_of, is_born_in, node_of}
 use Rattle.world_laws.specs.Families.{NodeHolds}
-use Rattle.world_laws.specs.Invariant.{Holds}
+use Rattle.world_laws.specs.Cancels.{Owing}
+use Rattle.world_laws.specs.Invariant.{HoldsOwing}
 use Rattle.route_laws.proofs.hand.Answering.{IsPlainCall}
 use Rattle.route_laws.proofs.keys.NumberKinds.{kill-is, withdrawal-is}
 use Rattle.route_laws.proofs.keys.MadeHere.{MakesOf, Tables, made_node}
@@ -102,7 +104,8 @@ pub record MakesKeyed (script : Script) (w : World) (b : Beside) (s : Step) (ask
       (made_node (node_of w 1) kind makes.takes.numbers makes.takes.directory name body (node_of w 1).caller keys))
       asked (replies.Num (number_of name)))
 
-module _ (script : Script) (w : World) (hand : List Held) (b : Beside) (holds : Holds script w hand b)
+module _ (script : Script) (w : World) (hand : List Held) {owes : Owing} (b : Beside)
+    (holds : HoldsOwing script w hand owes b)
     (some_node : 1 ≤ node_count script) (enough : (kind : Kind) → has_more (directory_of w) kind ≡ true) (s : Step)
     (here : node_of w 1 ≡ s.node) (asked : Asked) (may : MayMake b.kernel asked.pid asked.call) where
   abbrev n : Node
@@ -163,21 +166,24 @@ module _ (script : Script) (w : World) (hand : List Held) (b : Beside) (holds : 
     new-queue is =
         let t : TakesNumber w k kinds.Msg = takes kinds.Msg
         in let keys : Tables = record { queues = put queue_keys key (bound_to t.number 0); sets = set_keys }
-        in let bound : MakesBound k asked.pid asked.call (Msg t.number) (AQueue empty_queue) keys.queues keys.sets =
-        subst (λ c. MakesBound k asked.pid c (Msg t.number) (AQueue empty_queue) keys.queues keys.sets) (sym call)
+        in let bound : MakesBound k asked.pid asked.call (Msg t.number) (AQueue (unawaited empty_queue)) keys.queues
+        keys.sets =
+        subst (λ c. MakesBound k asked.pid c (Msg t.number) (AQueue (unawaited empty_queue)) keys.queues keys.sets)
+        (sym call)
         (makes-keyed-queue queue_keys set_keys k asked.pid key t.number create excl may-get holds.keys is t.unused
         t.positive)
         in record {
           kind = kinds.Msg;
           name = Msg t.number;
-          body = AQueue empty_queue;
+          body = AQueue (unawaited empty_queue);
           makes = record { takes = t; kind_is = refl; number_is = refl; object = refl; made = bound.object };
           keys = keys;
           has_keys = bound.keys;
           is = queue-rule answers.Create is
               ∙ ap (option_map (make_queue script s asked key)) (taken-is kinds.Msg t)
               ∙ ap (λ q. Some (carry_out script
-              (with_node s (made-at kinds.Msg t.numbers t.directory (Msg t.number) (AQueue empty_queue) keys q)) asked
+              (with_node s (made-at kinds.Msg t.numbers t.directory (Msg t.number) (AQueue (unawaited empty_queue))
+              keys q)) asked
               (replies.Num t.number))) number-is;
         }
 
@@ -221,14 +227,14 @@ module _ (script : Script) (w : World) (hand : List Held) (b : Beside) (holds : 
         let t : TakesNumber w k kinds.Sem = takes kinds.Sem
         in let keys : Tables =
         record { queues = queue_keys; sets = put set_keys key (bound_to t.number (length set.semaphores)) }
-        in let bound : MakesBound k asked.pid asked.call (Sem t.number) (ASet set) keys.queues keys.sets =
-        subst (λ c. MakesBound k asked.pid c (Sem t.number) (ASet set) keys.queues keys.sets) (sym call)
+        in let bound : MakesBound k asked.pid asked.call (Sem t.number) (ASet (unawaited set)) keys.queues keys.sets =
+        subst (λ c. MakesBound k asked.pid c (Sem t.number) (ASet (unawaited set)) keys.queues keys.sets) (sym call)
         (makes-keyed-set queue_keys set_keys k asked.pid key t.number count create excl set may-get-set holds.keys is
         sized t.unused t.positive)
         in record {
           kind = kinds.Sem;
           name = Sem t.number;
-          body = ASet set;
+          body = ASet (unawaited set);
           makes = record { takes = t; kind_is = refl; number_is = refl; object = refl; made = bound.object };
           keys = keys;
           has_keys = bound.keys;
@@ -236,7 +242,7 @@ module _ (script : Script) (w : World) (hand : List Held) (b : Beside) (holds : 
               ∙ ap (create_set script s asked key) sized
               ∙ ap (option_map (make_set script s asked key set)) (taken-is kinds.Sem t)
               ∙ ap (λ q. Some (carry_out script
-              (with_node s (made-at kinds.Sem t.numbers t.directory (Sem t.number) (ASet set) keys q)) asked
+              (with_node s (made-at kinds.Sem t.numbers t.directory (Sem t.number) (ASet (unawaited set)) keys q)) asked
               (replies.Num t.number))) number-is;
         }
 

@@ -21,9 +21,10 @@ use Rattle.world_laws.specs.Places.{Beside}
 use Rattle.world_laws.specs.Sights.{directory_of, is_born_in, node_of}
 use Rattle.world_laws.specs.Names.{NameHolds, name_sight}
 use Rattle.world_laws.specs.Families.{NodeHolds}
-use Rattle.world_laws.specs.Invariant.{Holds}
+use Rattle.world_laws.specs.Cancels.{Owing}
+use Rattle.world_laws.specs.Invariant.{HoldsOwing}
 use Rattle.rule_laws.proofs.Nodes.{holds-stay, leader-stage, processes-with}
-use Rattle.route_laws.proofs.keys.AtLeader.{not-known}
+use Rattle.rule_laws.proofs.makes.NewOnes.{nothing-known}
 use Rattle.route_laws.proofs.keys.NewPlaces.{KnowsNew, knows-new, ranges-placed}
 use Rattle.route_laws.proofs.keys.Taking.{TakesNumber}
 
@@ -53,7 +54,8 @@ made_node n kind numbers d name body caller keys =
       leader = record { directory = place_name d name 1; queue_keys = keys.queues; set_keys = keys.sets };
     }
 
-module _ (script : Script) (w : World) (hand : List Held) (b : Beside) (holds : Holds script w hand b)
+module _ (script : Script) (w : World) (hand : List Held) {owes : Owing} (b : Beside)
+    (holds : HoldsOwing script w hand owes b)
     (some_node : 1 ≤ node_count script) (pid : ℕ) (call : Call) (kind : Kind) (name : Name) (body : Body)
     (m : MakesOf w b pid call kind name body) where
   abbrev d : Directory
@@ -73,7 +75,7 @@ module _ (script : Script) (w : World) (hand : List Held) (b : Beside) (holds : 
 
   unplaced : place_of d name ≡ None
   unplaced =
-      not-known script b.pids (is_born_in w) name (name_sight script w hand b name) known body unused
+      nothing-known script b.pids (is_born_in w) name (name_sight script w hand b name) known unused
 
   -- The directory knows it.
   pub directory-now : KnowsNew d (place_name t.directory name 1) name

@@ -1,5 +1,5 @@
 -- The leader has made a queue or a set, whoever asked for it: all holds of each name afterwards.
-use Rattle.std.proofs.Common.{◌≡◌, ◌≢◌, ◌⊎◌, ℕ, ◌≤◌, Bool, true, false, ◌&&◌, not, if◌then◌else◌, List, [], filter, flat_map, nat_eq, Some, None, is_none, is_some, refl, ap, sym, subst, ◌∙◌, inl, inr, arith}
+use Rattle.std.proofs.Common.{◌≡◌, ◌≢◌, ◌⊎◌, ℕ, ◌≤◌, Bool, true, false, ◌&&◌, not, if◌then◌else◌, List, [], filter, flat_map, nat_eq, Contains, Some, None, is_none, is_some, refl, ap, sym, subst, ◌∙◌, inl, inr, arith}
 use Rattle.std.proofs.lemmas.Bool.{cases_eq, eq-eqb, ne_eqb}
 use Rattle.pico_base.specs.declared.call.Call.{Call}
 use Rattle.pico_base.specs.declared.numbers.Kind.{Kind}
@@ -16,17 +16,18 @@ use Rattle.entry_laws.proofs.Fresh.{MakesObject}
 use Rattle.entry_laws.proofs.Numbers.{used-made, used-others}
 use Rattle.node_model.specs.declared.held.Held.{Held}
 use Rattle.node_model.specs.Kinds.{for_kind, get_named, kind_of, number_of}
-use Rattle.node_model.specs.Bodies.{Body, body_in}
+use Rattle.node_model.specs.Bodies.{Body}
 use Rattle.node_model.specs.Caller.{Caller}
 use Rattle.node_model.specs.Directory.{Directory, held_for, is_parcel_with, maker, maker_in, place_name, place_of, stays}
 use Rattle.world_model.specs.Census.{brings}
 use Rattle.world_model.specs.Node.{Node}
 use Rattle.world_model.specs.World.{World, node_count}
-use Rattle.world_laws.specs.Places.{Beside, CallPlace, DeedPlace, InTable, Unmade, deed_in}
+use Rattle.world_laws.specs.Places.{Beside, CallPlace, DeedPlace, InTable, Unmade, body_put, deed_in}
 use Rattle.world_laws.specs.Sights.{directory_of, frames_to, is_born_in, node_of, stage_of}
-use Rattle.world_laws.specs.Plays.{Has, begin, has_any, is_checkpoint_of, news, placed_in, plays}
-use Rattle.world_laws.specs.Names.{NameHolds, NameSight, comes_to, forker, held_as, held_at, is_maker, name_sight, range_steps_of}
-use Rattle.world_laws.specs.Invariant.{Holds}
+use Rattle.world_laws.specs.Plays.{Has, PlayStep, begin, has_any, is_checkpoint_of, news, placed_in, plays}
+use Rattle.world_laws.specs.Names.{IsSentThere, NameHolds, NameSight, RangeStep, comes_to, forker, held_as, held_at, is_maker, leases_first, name_sight, range_steps_of}
+use Rattle.world_laws.specs.Cancels.{Owing}
+use Rattle.world_laws.specs.Invariant.{HoldsOwing}
 use Rattle.world_laws.proofs.Changes.{Changes, filter-is-list-map, flat_map-is-list-map, made-same, only-stayed, read-same, stayed}
 use Rattle.world_laws.proofs.Frames.{all-weaker, no-checkpoint, no-deed, no-news, no-places, no-ranges, no-steps}
 use Rattle.world_laws.proofs.LeftAlone.{AreNotAbout}
@@ -34,7 +35,9 @@ use Rattle.world_laws.proofs.NameFacts.{begins-with, held-elsewhere, held-here}
 use Rattle.world_laws.proofs.Named.{get-put-other-name, get-put-same-name, name-cases, other-name, same-name}
 use Rattle.world_laws.proofs.Stays.{IsMore, SameName, name-stays}
 use Rattle.rule_laws.proofs.Nodes.{leader-stage}
-use Rattle.route_laws.proofs.keys.AtLeader.{at_leader, deed-was, name-at-leader}
+use Rattle.rule_laws.proofs.makes.FirstUsed.{first-still, plays-unsent, sent-before}
+use Rattle.rule_laws.proofs.own.Rebodied.{IsBodyOf, nobody-waits-in}
+use Rattle.route_laws.proofs.keys.AtLeader.{GoesAsBefore, at_leader, name-at-leader}
 use Rattle.route_laws.proofs.keys.MadeHere.{MakesOf, Tables, directory-now, made_node, ranges-now, unused}
 use Rattle.route_laws.proofs.keys.NewPlaces.{KnowsNew}
 use Rattle.route_laws.proofs.keys.Refills.{made_by, name-given-out}
@@ -45,12 +48,14 @@ use Rattle.route_laws.proofs.keys.Taking.{IsGivenOut, TakesNumber}
 pub record LeavesFrames (hand hand' : List Held) (b : Beside) (call : ℕ → CallPlace) (left : ℕ → ℕ → List Frame)
     : Type 0 where
   pub hand_is : (name : Name) → filter (is_parcel_with name) hand' ≡ filter (is_parcel_with name) hand
-  pub steps_are : (name : Name) (h : ℕ) → plays call name (left h 1) ≡ plays b.call name (left h 1)
-  pub ranges_are : (name : Name) (h : ℕ)
-      → flat_map (range_steps_of call name) (left h 1) ≡ flat_map (range_steps_of b.call name) (left h 1)
+  pub steps_are : (used : Bool) (name : Name) (h : ℕ)
+      → plays used call name (left h 1) ≡ plays used b.call name (left h 1)
+  pub ranges_are : (used : Bool) (name : Name) (h : ℕ)
+      → flat_map (range_steps_of used call name) (left h 1) ≡ flat_map (range_steps_of used b.call name) (left h 1)
 
-module _ (script : Script) (w w' : World) (hand hand' : List Held) (b : Beside) (holds : Holds script w hand b)
-    (some_node : 1 ≤ node_count script) (pid : ℕ) (call : Call) (kind : Kind) (name : Name) (body : Body)
+module _ (script : Script) (w w' : World) (hand hand' : List Held) {owes : Owing} (b : Beside)
+    (holds : HoldsOwing script w hand owes b) (some_node : 1 ≤ node_count script) (pid : ℕ) (call : Call) (kind : Kind)
+    (name : Name) (body : Body)
     (m : MakesOf w b pid call kind name body) (caller : Caller) (keys : Tables) (places : Places)
     (calls : ℕ → CallPlace) (sends : List (ℕ × Frame)) (entries : List Entry)
     (c : Changes script 1 w w' (made_node (node_of w 1) kind m.takes.numbers m.takes.directory name body caller keys)
@@ -77,10 +82,19 @@ module _ (script : Script) (w w' : World) (hand hand' : List Held) (b : Beside) 
   abbrev placed : Directory
   placed = place_name t.directory name 1
 
-  -- what stands beside the world
+  abbrev body_now : Name → Body
+  body_now = body_put b.body name body
+
+  -- what stands beside the world, as names see it
   abbrev pub made_beside : Beside
   made_beside =
-      record b { kernel = made.next; places = places; deed = deed_in b.deed name (InTable 1); call = calls }
+      record b {
+        kernel = made.next;
+        places = places;
+        deed = deed_in b.deed name (InTable 1);
+        call = calls;
+        body = body_now;
+      }
 
   knows : KnowsNew d placed name
   knows = directory-now script w hand b holds some_node pid call kind name body m
@@ -135,21 +149,24 @@ module _ (script : Script) (w w' : World) (hand hand' : List Held) (b : Beside) 
       (λ t s. filter-is-list-map (is_checkpoint_of y)) tt (all-weaker (λ s. no-checkpoint y s.1) sends (plain y)) h
       (forker script h))
 
-  steps-same : (y : Name) (h : ℕ) → plays calls y (frames_to w' h 1) ≡ plays b.call y (frames_to w h 1)
-  steps-same y h =
-      only-stayed script 1 w w' after [] sends entries c (λ t s fs. plays calls y fs) (λ t s. flat_map-is-list-map _)
-      (all-weaker (λ s. no-steps calls y s.1) sends (plain y)) h 1
-      ∙ l.steps_are y h
-      ∙ stayed script 1 w w' after [] sends entries c (λ t s fs. plays b.call y fs) (λ t s. flat_map-is-list-map _) tt
-      h 1
+  -- what is on its way to nodes, for a name that is used, or isn't
+  steps-same : (used : Bool) (y : Name) (h : ℕ)
+      → plays used calls y (frames_to w' h 1) ≡ plays used b.call y (frames_to w h 1)
+  steps-same used y h =
+      only-stayed script 1 w w' after [] sends entries c (λ t s fs. plays used calls y fs)
+      (λ t s. flat_map-is-list-map _) (all-weaker (λ s. no-steps used calls y s.1) sends (plain y)) h 1
+      ∙ l.steps_are used y h
+      ∙ stayed script 1 w w' after [] sends entries c (λ t s fs. plays used b.call y fs)
+      (λ t s. flat_map-is-list-map _) tt h 1
 
-  ranges-same : (y : Name) (h : ℕ)
-      → flat_map (range_steps_of calls y) (frames_to w' h 1) ≡ flat_map (range_steps_of b.call y) (frames_to w h 1)
-  ranges-same y h =
-      only-stayed script 1 w w' after [] sends entries c (λ t s fs. flat_map (range_steps_of calls y) fs)
-      (λ t s. flat_map-is-list-map _) (all-weaker (λ s. no-ranges calls y s.1) sends (plain y)) h 1
-      ∙ l.ranges_are y h
-      ∙ stayed script 1 w w' after [] sends entries c (λ t s fs. flat_map (range_steps_of b.call y) fs)
+  ranges-same : (used : Bool) (y : Name) (h : ℕ)
+      → flat_map (range_steps_of used calls y) (frames_to w' h 1)
+      ≡ flat_map (range_steps_of used b.call y) (frames_to w h 1)
+  ranges-same used y h =
+      only-stayed script 1 w w' after [] sends entries c (λ t s fs. flat_map (range_steps_of used calls y) fs)
+      (λ t s. flat_map-is-list-map _) (all-weaker (λ s. no-ranges used calls y s.1) sends (plain y)) h 1
+      ∙ l.ranges_are used y h
+      ∙ stayed script 1 w w' after [] sends entries c (λ t s fs. flat_map (range_steps_of used b.call y) fs)
       (λ t s. flat_map-is-list-map _) tt h 1
 
   placed-same : (y : Name) (q : ℕ) → placed_in y (frames_to w' 1 q) ≡ placed_in y (frames_to w 1 q)
@@ -214,15 +231,18 @@ module _ (script : Script) (w w' : World) (hand hand' : List Held) (b : Beside) 
         maker = refl;
         stays = λ q. sym (stays-same q);
         used = sym (used-other y other);
-        body = sym (made.rest y other);
+        part = sym (made.rest y other);
+        body = sym (ap (λ t. if t then body else b.body y) (other-name name y (λ e. other (sym e))));
         deed = sym (ap (λ t. if t then InTable 1 else b.deed y) (other-name name y (λ e. other (sym e))));
         held = λ h. sym (held-other y other h);
         brought = λ to sender. sym (brought-same y to sender);
         kept = λ p. sym (kept-same y p);
         hand = sym (l.hand_is y);
         begins = λ h. sym (begins-other y other h);
-        steps = λ h. sym (steps-same y h);
-        ranges = λ h. sym (ranges-same y h);
+        steps = λ h. ap (λ u. plays u b.call y (frames_to w h 1)) (sym (used-other y other))
+            ∙ sym (steps-same (is_used_name made.next y) y h);
+        ranges = λ h. ap (λ u. flat_map (range_steps_of u b.call y) (frames_to w h 1)) (sym (used-other y other))
+            ∙ sym (ranges-same (is_used_name made.next y) y h);
         placed = λ q. sym (placed-same y q);
         news = λ q. ap (λ u. news y u (frames_to w 1 q)) (sym (flag-other y other q))
             ∙ sym (news-same y (is_used_name made.next y && is_maker (maker (directory_of w') y) q) q);
@@ -242,13 +262,49 @@ module _ (script : Script) (w w' : World) (hand hand' : List Held) (b : Beside) 
       ∙ ap (λ y. maker_in (for_kind t.directory.ranges y) (number_of name)) m.kind_is
       ∙ ap (maker_in (for_kind t.directory.ranges kind)) m.number_is ∙ t.made_here
 
+  known : NameHolds script b.pids (is_born_in w) name (x name)
+  known = holds.names name
+
   deed-none : b.deed name ≡ Unmade
-  deed-none = deed-was script b.pids (is_born_in w) name (x name) (holds.names name) body name-unused
+  deed-none = known.made.1 name-unused
+
+  -- nobody waits there
+  new-body : IsBodyOf script body body
+  new-body =
+      subst (λ v. IsBodyOf script v v) made.there (nobody-waits-in script made.next name)
+
+  abbrev steps_now : ℕ → List PlayStep
+  steps_now h = plays true b.call name (frames_to w h 1)
+
+  abbrev ranges_now : ℕ → List RangeStep
+  ranges_now h = flat_map (range_steps_of true b.call name) (frames_to w h 1)
+
+  not-first : (q : ℕ) → 2 ≤ q → Some 1 ≡ Some q → ⊥
+  not-first q low same = omega (arith, low, number-same q same)
+    where
+      number-same : (r : ℕ) → Some 1 ≡ Some r → 1 ≡ r
+      number-same r e = cc
+
+  -- what is on its way to other nodes is the same, though the name is used now: none of it was sent by its range
+  goes-as-before : GoesAsBefore (other_sight name) steps_now ranges_now
+  goes-as-before =
+      let ours : NameHolds script b.pids (is_born_in w) name (other_sight name) = maker-now name
+      in let was : (q : ℕ) → (x name).ranges q ≡ flat_map (range_steps_of false b.call name) (frames_to w q 1) =
+      λ q. ap (λ u. flat_map (range_steps_of u b.call name) (frames_to w q 1)) name-unused
+      in record {
+        steps_are = λ q low. plays-unsent b.call name (frames_to w q 1)
+            (λ there. not-first q low (sym made-here
+            ∙ ours.ranged q (subst (λ rs. Contains rs IsSentThere) (sym (was q)) there)))
+            ∙ ap (λ u. plays u b.call name (frames_to w q 1)) (sym name-unused);
+        ranged = λ q there. subst (λ rs. Contains rs IsSentThere) (sym (was q))
+            (sent-before b.call name (frames_to w q 1) there);
+        leased = λ q first. first-still b.call name (frames_to w q 1)
+            (subst (λ rs. leases_first rs ≡ true) (was q) first);
+      }
 
   held-none : (q : ℕ) → held_at w name q ≡ None
   held-none q =
-      let known : NameHolds script b.pids (is_born_in w) name (x name) = holds.names name
-      in known.tables q ∙ ap (λ (y : DeedPlace). held_as y (body_in k name) q) deed-none
+      known.tables q ∙ ap (λ (y : DeedPlace). held_as y (b.body name) q) deed-none
 
   held-now : (q : ℕ) → held_as (InTable 1) body q ≡ held_at w' name q
   held-now q =
@@ -309,22 +365,25 @@ module _ (script : Script) (w w' : World) (hand hand' : List Held) (b : Beside) 
       none-to-itself : frames_to w 1 1 ≡ []
       none-to-itself = let fit = holds.frames_fit in fit.none_to_itself 1
 
-  own-seen : SameName (at_leader (other_sight name) body) (name_sight script w' hand' made_beside name)
+  own-seen : SameName (at_leader (other_sight name) body steps_now ranges_now)
+      (name_sight script w' hand' made_beside name)
   own-seen =
       record {
         place = sym (ap (λ z. place_of z name) directory-is ∙ knows.place_is);
         maker = refl;
         stays = λ q. sym (stays-same q);
         used = sym used-now;
-        body = sym made.there;
+        part = sym made.there;
+        body = sym (ap (λ t. if t then body else b.body name) (same-name name name refl));
         deed = sym (ap (λ t. if t then InTable 1 else b.deed name) (same-name name name refl));
         held = held-now;
         brought = λ to sender. sym (brought-same name to sender);
         kept = λ p. sym (kept-same name p);
         hand = sym (l.hand_is name);
         begins = begins-now;
-        steps = λ h. sym (steps-same name h);
-        ranges = λ h. sym (ranges-same name h);
+        steps = λ h. sym (ap (λ u. plays u calls name (frames_to w' h 1)) used-now ∙ steps-same true name h);
+        ranges = λ h. sym (ap (λ u. flat_map (range_steps_of u calls name) (frames_to w' h 1)) used-now
+            ∙ ranges-same true name h);
         placed = λ q. sym (placed-same name q);
         news = news-now;
       }
@@ -336,7 +395,9 @@ module _ (script : Script) (w w' : World) (hand hand' : List Held) (b : Beside) 
         | inl e ↦
             subst (λ z. NameHolds script b.pids (is_born_in w') z (name_sight script w' hand' made_beside z)) (sym e)
             (name-stays script b.pids (is_born_in w) (is_born_in w') name _ _ more own-seen
-            (name-at-leader script b.pids (is_born_in w) name (other_sight name) (maker-now name) body name-unused))
+            (name-at-leader script b.pids (is_born_in w) name (other_sight name) (maker-now name) body new-body
+            steps_now
+            ranges_now goes-as-before name-unused))
         | inr other ↦
             name-stays script b.pids (is_born_in w) (is_born_in w') y _ _ more (other-seen y other) (maker-now y)
       ]

@@ -25,7 +25,8 @@ use Rattle.world_model.specs.World.{World, node_count, numbers}
 use Rattle.world_laws.specs.Places.{Beside, CallPlace}
 use Rattle.world_laws.specs.Sights.{directory_of, is_born_in, node_of}
 use Rattle.world_laws.specs.Ranges.{FewRanges, KindHolds, KindSight, has_lease, kind_sight, lease_at, lease_in, leases_on_way, one_for}
-use Rattle.world_laws.specs.Invariant.{Holds}
+use Rattle.world_laws.specs.Cancels.{Owing}
+use Rattle.world_laws.specs.Invariant.{HoldsOwing}
 use Rattle.world_laws.proofs.Changes.{Changes, flat_map-is-list-map, made-same}
 use Rattle.world_laws.proofs.Frames.{all-weaker, no-lease}
 use Rattle.world_laws.proofs.LeftAlone.{kind-left-alone}
@@ -35,7 +36,8 @@ use Rattle.rule_laws.proofs.own.Objects.{for-other, for-with, kind-is, kind-itse
 use Rattle.route_laws.proofs.keys.MadeHere.{MakesOf, Tables, made_node, ranges-now}
 use Rattle.route_laws.proofs.keys.Taking.{TakesNumber, to_be_taken}
 
-module _ (script : Script) (w w' : World) (hand : List Held) (b : Beside) (holds : Holds script w hand b)
+module _ (script : Script) (w w' : World) (hand : List Held) {owes : Owing} (b : Beside)
+    (holds : HoldsOwing script w hand owes b)
     (some_node : 1 ≤ node_count script) (pid : ℕ) (call : Call) (kind : Kind) (name : Name) (body : Body)
     (m : MakesOf w b pid call kind name body) (caller : Caller) (keys : Tables)
     (calls : ℕ → CallPlace) (sends : List (ℕ × Frame)) (entry : Entry)

@@ -9,7 +9,7 @@ use Rattle.node_model.specs.declared.held.Held.{Held}
 use Rattle.node_model.specs.declared.held.Held.TheVariants.{Ending}
 use Rattle.node_model.specs.Kinds.{Named, for_kind, get_named}
 use Rattle.node_model.specs.Directory.{Directory, Place, At, held_for, is_known, items_of, place_name, place_of, with_place}
-use Rattle.world_laws.specs.Callers.{is_item_about}
+use Rattle.world_laws.proofs.Cancels.{is_item_of}
 use Rattle.world_laws.specs.Invariant.{IsLeading}
 use Rattle.rule_laws.proofs.CallMoves.{SameButCall}
 use Rattle.rule_laws.proofs.Places.{place-with-other, place-with-same, with-place-keeps}
@@ -74,7 +74,7 @@ knows-but-call x d d' name n =
     record {
       partings_are = n.partings_are;
       known_still = n.known_still;
-      held_of_others = λ y other m. ap (filter (is_item_about y)) (n.held_is m);
+      held_of_others = λ y other m. ap (filter (is_item_of y)) (n.held_is m);
       parcels_were = λ pid parcel. subst (λ (items : List Held). Contains items (Ending parcel))
           (n.held_is (Proc pid));
       leads = n.leads;

@@ -42,6 +42,7 @@ module _ (script : Script) (born : ℕ → Bool) (x : CallSight) (leases : Lease
           in_streams = c.nowhere.in_streams;
           held_for_names = c.nowhere.held_for_names;
           in_hand = c.nowhere.in_hand;
+          waiting = c.nowhere.waiting;
         };
         idle = c.idle;
         free = free x.stage c.free;
@@ -52,12 +53,14 @@ module _ (script : Script) (born : ℕ → Bool) (x : CallSight) (leases : Lease
           in_streams = c.just_there.in_streams;
           held_for_names = c.just_there.held_for_names;
           in_hand = c.just_there.in_hand;
+          waiting = c.just_there.waiting;
         };
         home = c.home;
         used_up = no-lease-at-first born x.call leases c.between;
         between = c.between;
         so_far = so-far call x.call c.so_far;
         at_work = c.at_work;
+        started = c.started;
         tickets = c.tickets;
         try_left = c.try_left;
       }

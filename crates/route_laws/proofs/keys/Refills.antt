@@ -133,6 +133,8 @@ module _ (script : Script) (pids : ℕ → ℕ) (born : ℕ → Bool) (name : Na
   pub name-given-out : x.maker ≡ None → NameHolds script pids born name (made_by x (Some node))
   name-given-out unmade =
       record {
+        parts = h.parts;
+        callers = h.callers;
         made = h.made;
         place_fits = h.place_fits;
         tables = h.tables;

@@ -24,7 +24,8 @@ use Rattle.world_laws.specs.Sights.{directory_of, is_born_in, node_of}
 use Rattle.world_laws.specs.Names.{NameHolds, leases_name, name_sight}
 use Rattle.world_laws.specs.Ranges.{KindHolds, KindSight, is_given, kind_sight, lease_at, lease_in}
 use Rattle.world_laws.specs.Families.{NodeHolds}
-use Rattle.world_laws.specs.Invariant.{Holds}
+use Rattle.world_laws.specs.Cancels.{Owing}
+use Rattle.world_laws.specs.Invariant.{HoldsOwing}
 use Rattle.world_laws.proofs.Stays.{SameKind, kind-stays}
 use Rattle.world_laws.proofs.NewRanges.{maker-elsewhere, range-of-next, unmade-next}
 use Rattle.world_laws.proofs.Numbers.{maker-in-range}
@@ -107,7 +108,8 @@ none-passes test (x ∷ xs) h =
 
 -- ---- the leader's numbers
 
-module _ (script : Script) (w : World) (hand : List Held) (b : Beside) (holds : Holds script w hand b)
+module _ (script : Script) (w : World) (hand : List Held) {owes : Owing} (b : Beside)
+    (holds : HoldsOwing script w hand owes b)
     (some_node : 1 ≤ node_count script) (kind : Kind) (enough : has_more (directory_of w) kind ≡ true) where
   abbrev n : Node
   n = node_of w 1

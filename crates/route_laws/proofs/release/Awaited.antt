@@ -71,7 +71,7 @@ module _ (script : Script) (w : World) (hand : List Held) (b : Beside) (holds : 
       in let d : y ≢ 1 = λ e. omega (arith, e, low)
       in false≢true
       (sym (play-without (x.begins y) played.last (x.steps y)
-      (plays-without b.call name (frames_to w y 1) (none-brought y 1 d))
+      (plays-without x.used b.call name (frames_to w y 1) (none-brought y 1 d))
       (ap (λ o. is_has (begin (stage_of w y) (is_some o) (comes_to script w name y))) (given-held-none y)
       ∙ ap (λ t. is_has (begin (stage_of w y) false t)) (comes-not y d)
       ∙ begin-without (stage_of w y))

@@ -1,20 +1,25 @@
 -- A parcel in hand comes to its end: it is held, which is one more, or its names' items are released, which aren't held
 -- any more.
-use Rattle.std.proofs.Common.{◌≡◌, ℕ, ◌+◌, ◌≤◌, Bool, true, false, if◌then◌else◌, List, [], ◌∷◌, ◌++◌, map, nat_eq, Option, Some, None, option_map, refl, ap, sym, subst, arith}
+use Rattle.std.proofs.Common.{◌≡◌, ℕ, ◌+◌, ◌≤◌, Bool, true, false, if◌then◌else◌, List, [], ◌∷◌, ◌++◌, map, nat_eq, Option, Some, None, option_map, refl, ap, sym, subst, ◌∙◌, arith}
+use Rattle.pico_base.specs.declared.call.Call.{Call}
 use Rattle.pico_base.specs.declared.numbers.Name.{Name}
 use Rattle.pico_base.specs.declared.numbers.Name.TheVariants.{Proc}
+use Rattle.pico_base.specs.declared.reply.Reply.TheVariants as replies
+use Rattle.pico_base.specs.declared.script.Script.{Script}
 use Rattle.rpc_frame.specs.declared.deed.PackedDeed.{PackedDeed}
 use Rattle.rpc_frame.specs.declared.deed.Parcel.{Parcel}
 use Rattle.rpc_frame.specs.declared.frame.Frame.TheVariants as frames
 use Rattle.number_maps.specs.Maps.{Numbered}
 use Rattle.number_maps.specs.Rising.{IsRising}
+use Rattle.waiting_model.specs.declared.callers.Wake.{Wake}
 use Rattle.node_model.specs.declared.held.Held.TheVariants.{Ending}
-use Rattle.node_model.specs.Kinds.{get_named}
+use Rattle.node_model.specs.Kinds.{get_named, put_all}
 use Rattle.node_model.specs.Bodies.{Body}
 use Rattle.node_model.specs.Directory.{Directory, Place, At, Coming, place_of, hold_at, items_of, parcels_held}
-use Rattle.node_model.specs.Parcels.{pack_all, commit_exit, fitting_bodies}
-use Rattle.world_model.specs.Step.{Step, send}
-use Rattle.world_model.specs.Ends.{AfterEnd, IsHeld, Releases, names_in, arrive_all, held_for_all, release_names, enter_exit, exit_with, exit_here, end_by, end_process}
+use Rattle.node_model.specs.Entries.{outcome_with}
+use Rattle.node_model.specs.Parcels.{Committed, pack_all, commit_exit, fitting_bodies}
+use Rattle.world_model.specs.Step.{Step, enter_with, reply_here, send, with_deeds, with_strike}
+use Rattle.world_model.specs.Ends.{AfterEnd, IsHeld, Releases, answer_own, names_in, arrive_all, held_for_all, is_struck_by_end, parked_parent, release_names, enter_exit, exit_with, exit_here, end_by, end_process}
 use Rattle.route_laws.proofs.release.Parcels.{PlacesRise, parcels_among, among-both, among-behind-parcel, one-more-held, names_of, all-arrive}
 use Rattle.route_laws.proofs.release.RoutedParcels.{directory_in}
 
@@ -69,15 +74,32 @@ abbrev SameIn : Step → Option Step → Type 0
 SameIn s None = Unit {0}
 SameIn s (Some t) = directory_in t ≡ directory_in s
 
-exit-same : (s : Step) (parcel : Parcel) (bodies : Option (Numbered Body)) (parent : Option Body)
-    → SameIn s (exit_with s parcel bodies parent)
-exit-same s parcel None parent = tt
-exit-same s parcel (Some bodies) None = tt
-exit-same s parcel (Some bodies) (Some parent) = by-changes (commit_exit parcel bodies parent)
+answered-same : (script : Script) (s : Step) (wakes : List Wake)
+    → directory_in (answer_own script s wakes) ≡ directory_in s
+answered-same script s [] = refl
+answered-same script s (z ∷ wakes) =
+    answered-same script (reply_here script s z.reply s.node.caller.under_way) wakes ∙ by s.node.caller.under_way
   where
-    by-changes : (o : Option (List (Name × Body))) → SameIn s (option_map (enter_exit s parcel) o)
+    by : (o : Option Call) → directory_in (reply_here script s z.reply o) ≡ directory_in s
+    by None = refl
+    by (Some call) = refl
+
+exit-same : (script : Script) (s : Step) (parcel : Parcel) (bodies : Option (Numbered Body)) (parent : Option Body)
+    → SameIn s (exit_with script s parcel bodies parent)
+exit-same script s parcel None parent = tt
+exit-same script s parcel (Some bodies) None = tt
+exit-same script s parcel (Some bodies) (Some parent) =
+    by-changes (commit_exit parcel bodies (parked_parent s.node parcel.parent) parent)
+  where
+    entered : Committed → Step
+    entered c =
+        enter_with
+        (with_deeds (with_strike s (is_struck_by_end s.node parcel.parent)) (put_all s.node.deeds c.changes)) parcel.pid
+        parcel.call (outcome_with (Some replies.Ended) c.wakes)
+
+    by-changes : (o : Option Committed) → SameIn s (option_map (enter_exit script s parcel) o)
     by-changes None = tt
-    by-changes (Some changes) = refl
+    by-changes (Some c) = answered-same script (entered c) c.wakes
 
 by-exit : (s : Step) (parcel : Parcel) (node : ℕ) → IsPacked parcel → PlacesRise (directory_in s) → (o : Option Step)
     → SameIn s o → EndLeaves s (option_map (release_names parcel node) o)
@@ -86,23 +108,24 @@ by-exit s parcel node k r (Some t) e = names-released s t parcel node k r e
 
 -- ---- by the parent's place
 
-by-place : (s : Step) (parcel : Parcel) → IsPacked parcel → PlacesRise (directory_in s) → (o : Option Place)
-    → place_of (directory_in s) (Proc parcel.parent) ≡ o → EndLeaves s (end_by s parcel o)
-by-place s parcel k r None e = tt
-by-place s parcel k r (Some (Coming to items)) e =
+by-place : (script : Script) (s : Step) (parcel : Parcel) → IsPacked parcel → PlacesRise (directory_in s)
+    → (o : Option Place) → place_of (directory_in s) (Proc parcel.parent) ≡ o
+    → EndLeaves s (end_by script s parcel o)
+by-place script s parcel k r None e = tt
+by-place script s parcel k r (Some (Coming to items)) e =
     one-more (directory_in s) (Proc parcel.parent) parcel (place_of (directory_in s) (Proc parcel.parent)) refl r
-by-place s parcel k r (Some (At node)) e = by-test (nat_eq node s.node.number)
+by-place script s parcel k r (Some (At node)) e = by-test (nat_eq node s.node.number)
   where
     by-test : (t : Bool)
         → EndLeaves s
-        (if t then option_map (release_names parcel node) (exit_here s parcel)
+        (if t then option_map (release_names parcel node) (exit_here script s parcel)
         else Some (release_names parcel node (send s node (frames.ExitTo parcel))))
     by-test true =
-        by-exit s parcel node k r (exit_here s parcel)
-        (exit-same s parcel (fitting_bodies s.node.deeds parcel) (get_named s.node.deeds (Proc parcel.parent)))
+        by-exit s parcel node k r (exit_here script s parcel)
+        (exit-same script s parcel (fitting_bodies s.node.deeds parcel) (get_named s.node.deeds (Proc parcel.parent)))
     by-test false = names-released s (send s node (frames.ExitTo parcel)) parcel node k r refl
 
 -- What a parcel's end leaves of the parcels held.
-pub end-leaves : (s : Step) (parcel : Parcel) → IsPacked parcel → PlacesRise (directory_in s)
-    → EndLeaves s (end_process s parcel)
-end-leaves s parcel k r = by-place s parcel k r (place_of (directory_in s) (Proc parcel.parent)) refl
+pub end-leaves : (script : Script) (s : Step) (parcel : Parcel) → IsPacked parcel → PlacesRise (directory_in s)
+    → EndLeaves s (end_process script s parcel)
+end-leaves script s parcel k r = by-place script s parcel k r (place_of (directory_in s) (Proc parcel.parent)) refl

@@ -9,7 +9,7 @@ use Rattle.rpc_frame.specs.declared.frame.Frame.{Frame}
 use Rattle.rpc_frame.specs.declared.frame.Frame.TheVariants as frames
 use Rattle.node_model.specs.declared.held.Held.{Held}
 use Rattle.node_model.specs.Kinds.{is_object, get_named, put_named, without_named}
-use Rattle.node_model.specs.Bodies.{Body, body_in}
+use Rattle.node_model.specs.Bodies.{Body, waiters_of}
 use Rattle.node_model.specs.Directory.{Directory, Place, At, Coming, place_of, arrive, held_for, bound_for, is_coming, is_coming_to, stays}
 use Rattle.node_model.specs.Spelling.{pack, read_deed}
 use Rattle.world_model.specs.Node.{Node, is_leader}
@@ -26,7 +26,9 @@ use Rattle.world_laws.specs.Invariant.{Holds}
 use Rattle.world_laws.proofs.Changes.{Changes, still-born}
 use Rattle.world_laws.proofs.Middles.{changes-further}
 use Rattle.world_laws.proofs.Steps.{Heads, world_without}
+use Rattle.rule_laws.proofs.Grants.{all-nodes}
 use Rattle.rule_laws.proofs.Places.{place-with-same}
+use Rattle.rule_laws.proofs.own.Moved.{is_still}
 use Rattle.rule_laws.proofs.Suggestions.{born-in-range}
 use Rattle.route_laws.proofs.hand.Grantings.{grant-sent-keeps}
 use Rattle.route_laws.proofs.release.TakenUp.{taken_up}
@@ -78,7 +80,7 @@ goes-to d (Some other) to e = by-tests (nat_eq other 1) (stays d other) refl ref
         }
 
 module _ (script : Script) (w : World) (b : Beside) (holds : Holds script w [] b)
-    (at_nodes : KnowsNodes (directory_of w)) (reads : DeedsAreRead b.kernel) (q : ℕ) (packed : PackedDeed)
+    (at_nodes : KnowsNodes (directory_of w)) (reads : DeedsAreRead b.kernel b.body) (q : ℕ) (packed : PackedDeed)
     (rest : List Frame) (h : Heads script w 1 q (frames.GiveBack packed) rest) where
   abbrev name : Name
   name = packed.name
@@ -93,10 +95,13 @@ module _ (script : Script) (w : World) (b : Beside) (holds : Holds script w [] b
   v = world_without w 1 q rest
 
   abbrev body : Body
-  body = body_in b.kernel name
+  body = b.body name
 
   node-was : NodeHolds script b.pids (is_born_in w) 1 n
   node-was = holds.nodes 1 h.low h.high
+
+  known-here : NameHolds script b.pids (is_born_in w) name (name_sight script w [] b name)
+  known-here = holds.names name
 
   object : is_object name ≡ true
   object = given-object script w b holds q packed rest h
@@ -115,7 +120,7 @@ module _ (script : Script) (w : World) (b : Beside) (holds : Holds script w [] b
       → (leads && (coming_here && new)) ≡ true
   all-true leads coming_here new a c e = rw (a, c, e) refl
 
-  -- what comes is the kernel's body
+  -- what comes is the name's body
   pub given-is-read : read_deed packed ≡ Some body
   given-is-read =
       let given = is-given-back script w b holds q packed rest h
@@ -131,6 +136,9 @@ module _ (script : Script) (w : World) (b : Beside) (holds : Holds script w [] b
       (all-true (is_leader n) (is_coming d name) (is_new_here n name) (eq-eqb n.number 1 node-was.number) awaited
       (given-is-new script w [] b holds at_nodes name object q given.deed_is))
       ∙ ap (option_and_then (come_back script n name)) given-is-read
+      ∙ ap (λ t. if t
+      then release script (held_for d name) (pass_on n name body (goes_on_to d (bound_for d name)))
+      else None) (all-nodes script (waiters_of body) known-here.callers)
 
   -- ---- the deed stays
 
@@ -154,8 +162,7 @@ module _ (script : Script) (w : World) (b : Beside) (holds : Holds script w [] b
 
     bound : IsBoundRightly name (is_born_in w) to
     bound =
-        let known : NameHolds script b.pids (is_born_in w) name (name_sight script w [] b name) = holds.names name
-        in known.bound to goes.bound_is
+        known-here.bound to goes.bound_is
 
     none-here : get_named n.deeds name ≡ None
     none-here =
@@ -206,14 +213,14 @@ module _ (script : Script) (w : World) (b : Beside) (holds : Holds script w [] b
               kept-holds name to object born-still goes.other home-now
               (ap (λ (m : Node). stays m.leader.directory to) here ∙ goes.stays_there) n.watches (world_after v 1 sent)
               further-so;
-          calls = refl;
+          calls = λ y. is_still refl;
         }
 
   -- ---- the event
 
   by-goal : (o : Option ℕ) → goes_on_to d (bound_for d name) ≡ o
       → HoldsAfter script v (pass_on n name body o) (held_for d name) (λ y. taken_up name (b.call y))
-  by-goal None e = record { beside = beside-kept; holds = kept-holds; calls = refl }
+  by-goal None e = record { beside = beside-kept; holds = kept-holds; calls = λ y. is_still refl }
   by-goal (Some to) e = granted to (goes-to d (bound_for d name) to e)
 
   -- In the middle of the event all holds, with what was held for the name in hand.

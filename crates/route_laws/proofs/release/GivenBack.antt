@@ -1,6 +1,6 @@
 -- The leader takes the deed of a queue or set that comes back: in the middle of the event it has the deed, and what was
 -- held for the name is in its hand.
-use Rattle.std.proofs.Common.{◌≡◌, ◌≢◌, ◌⊎◌, ℕ, ◌≤◌, Bool, true, false, ◌&&◌, not, cond, if◌then◌else◌, List, [], ◌∷◌, ◌++◌, filter, flat_map, nat_eq, Option, Some, None, is_none, is_some, Contains, refl, ap, sym, subst, ◌∙◌, inl, inr, append-nil}
+use Rattle.std.proofs.Common.{◌≡◌, ◌≢◌, ◌⊎◌, ℕ, ◌≤◌, Bool, true, false, ◌&&◌, ◌||◌, not, cond, if◌then◌else◌, List, [], ◌∷◌, ◌++◌, filter, flat_map, nat_eq, Option, Some, None, is_none, is_some, Contains, refl, ap, sym, subst, ◌∙◌, inl, inr, append-nil}
 use Rattle.std.specs.List.{AllByRecursion}
 use Rattle.std.proofs.lemmas.Bool.{cases_eq, eq-eqb, ne_eqb, false≢true}
 use Rattle.pico_base.specs.declared.numbers.Kind.{Kind}
@@ -12,22 +12,22 @@ use Rattle.rpc_frame.specs.declared.deed.Parcel.{Parcel}
 use Rattle.rpc_frame.specs.declared.frame.Frame.{Frame}
 use Rattle.rpc_frame.specs.declared.frame.Frame.TheVariants as frames
 use Rattle.number_maps.specs.Maps.{get}
-use Rattle.entry_laws.specs.Entering.{HasHistory}
 use Rattle.node_model.specs.declared.held.Held.{Held}
 use Rattle.node_model.specs.declared.held.Held.TheVariants.{Ending}
 use Rattle.node_model.specs.Kinds.{is_object, is_same_name, get_named, put_named, for_kind}
-use Rattle.node_model.specs.Bodies.{body_in}
 use Rattle.node_model.specs.Directory.{Directory, At, Coming, place_of, arrive, held_for, items_of, is_parcel_with, is_known, maker, stays}
 use Rattle.world_model.specs.Node.{Node}
 use Rattle.world_model.specs.Step.{Step}
 use Rattle.world_model.specs.Moves.{pass_on}
 use Rattle.world_model.specs.Census.{brings}
 use Rattle.world_model.specs.World.{World, world_after, node_count}
-use Rattle.world_laws.specs.Places.{CallPlace, DeedPlace, InTable, InGiveBack, Beside, deed_in}
+use Rattle.world_laws.specs.Places.{CallPlace, DeedPlace, IsHeld, IsInHand, InTable, InGiveBack, Beside, deed_in}
 use Rattle.world_laws.specs.Sights.{node_of, frames_to, directory_of, stage_of, is_born_in}
-use Rattle.world_laws.specs.Plays.{Hold, plays, begin, has_any, is_checkpoint_of, is_sent_by_place, placed_in, news}
+use Rattle.world_laws.specs.Plays.{Hold, plays, begin, has_any, is_checkpoint_of, needs_by, placed_in, news}
 use Rattle.world_laws.specs.Names.{NameSight, name_sight, NameHolds, IsBringer, IsItemFor, OneIf, held_as, held_at, comes_to, may_be_at, is_stream_of, is_sent_by_range, range_steps_of, forker, is_maker}
 use Rattle.world_laws.specs.Callers.{call_sight, is_about, is_item_about}
+use Rattle.world_laws.specs.Cancels.{CancelHolds, Nothing, cancel_sight, is_cancel_of, is_held_cancel_of, is_held_of_call, is_of_call}
+use Rattle.world_laws.specs.Wholes.{HasMarks, under_way_at}
 use Rattle.world_laws.specs.Ways.{way_sight, knows_parent, IsParcelIn, left as left_in, sent as sent_in, kept as kept_in, at_hand}
 use Rattle.world_laws.specs.Ranges.{KeysHold, has_lease}
 use Rattle.world_laws.specs.Families.{NodeHolds}
@@ -38,14 +38,29 @@ use Rattle.world_laws.proofs.Changes.{Changes, filter-is-list-map, flat_map-is-l
 use Rattle.world_laws.proofs.LeftAlone.{DirectoryLeaves, LeavesName, name-left-alone, way-left-alone, parcel-was-there, sender-stays, kind-left-alone, family-left-alone, other-node-stays, frames-still-fit, few-still}
 use Rattle.world_laws.proofs.Steps.{Heads, world_without, changes-by-take}
 use Rattle.world_laws.proofs.Heads.{head-is, rest-stays, others-stay}
+use Rattle.world_laws.proofs.Cancels.{SameCancel}
+use Rattle.world_laws.proofs.Wholes.{LeavesWhole, whole-left-alone}
+use Rattle.rule_laws.proofs.CallMoves.{cancel-if-same}
 use Rattle.rule_laws.proofs.Nodes.{leader-stage, node-with-directory, node-with-objects, object-is-no-process, processes-with}
 use Rattle.rule_laws.proofs.Places.{place-with-same, place-with-other}
 use Rattle.route_laws.proofs.hand.Holdings.{leading-with}
+use Rattle.route_laws.proofs.exits.Arrivals.{is_one_of}
+use Rattle.route_laws.proofs.exits.Cancelled.{cancel-comes-home, cancel_released, marks-released, released_cancel}
+use Rattle.route_laws.proofs.exits.Released.{call_released}
 use Rattle.route_laws.proofs.release.TakenUp.{taken_up, read-up, plays-alike, ranges-alike, up_sight, call-up}
 use Rattle.route_laws.proofs.release.Home.{IsGivenBack, given-back, no-parcel-kept, no-parcel-there, home_sight, name-home}
 
 rest-same : {A : Type 0} (x y : A) (xs ys : List A) → x ∷ xs ≡ y ∷ ys → xs ≡ ys
 rest-same x y xs ys h = cc
+
+-- what was held for one name is in hand
+up-is-released : (name : Name) (place : CallPlace) → taken_up name place ≡ call_released (name ∷ []) place
+up-is-released name (IsHeld other) = by (is_same_name other name)
+  where
+    by : (t : Bool) → (if t then IsInHand else IsHeld other) ≡ (if t || false then IsInHand else IsHeld other)
+    by true = refl
+    by false = refl
+up-is-released name place = refl
 
 and-false : (t : Bool) → (t && false) ≡ false
 and-false true = refl
@@ -88,15 +103,15 @@ module _ (script : Script) (w : World) (b : Beside) (holds : Holds script w [] b
 
   -- the leader keeps it, and releases what was held for it
   abbrev pub kept_step : Step
-  kept_step = pass_on n name (body_in b.kernel name) None
+  kept_step = pass_on n name (b.body name) None
 
   abbrev after : Node
   after =
-      let s : Step = pass_on n name (body_in b.kernel name) None
+      let s : Step = pass_on n name (b.body name) None
       in s.node
 
   abbrev pub kept_world : World
-  kept_world = world_after (world_without w 1 q rest) 1 (pass_on n name (body_in b.kernel name) None)
+  kept_world = world_after (world_without w 1 q rest) 1 (pass_on n name (b.body name) None)
 
   abbrev hand : List Held
   hand = held_for d name
@@ -108,7 +123,12 @@ module _ (script : Script) (w : World) (b : Beside) (holds : Holds script w [] b
   deeds-now = deed_in b.deed name (InTable 1)
 
   abbrev pub kept_beside : Beside
-  kept_beside = record b { deed = deed_in b.deed name (InTable 1); call = λ y. taken_up name (b.call y) }
+  kept_beside =
+      record b {
+        deed = deed_in b.deed name (InTable 1);
+        call = λ y. taken_up name (b.call y);
+        cancel = λ y. cancel_released (name ∷ []) (b.cancel y);
+      }
 
   abbrev takes : List (ℕ × Frame)
   takes = (q, frame) ∷ []
@@ -143,14 +163,15 @@ module _ (script : Script) (w : World) (b : Beside) (holds : Holds script w [] b
 
   -- ---- the other names
 
-  steps-alike : (m : Name) (fs : List Frame) → plays calls-now m fs ≡ plays b.call m fs
-  steps-alike m fs =
-      plays-alike b.call calls-now (λ y. read-up is_sent_by_place name (λ other. refl) (b.call y)) m fs
+  steps-alike : (used : Bool) (m : Name) (fs : List Frame) → plays used calls-now m fs ≡ plays used b.call m fs
+  steps-alike used m fs =
+      plays-alike used b.call calls-now
+      (λ lasting y. read-up (needs_by lasting) name (λ other. refl) (b.call y)) m fs
 
-  sent-alike : (m : Name) (fs : List Frame)
-      → flat_map (range_steps_of calls-now m) fs ≡ flat_map (range_steps_of b.call m) fs
-  sent-alike m fs =
-      ranges-alike b.call calls-now (λ y. read-up is_sent_by_range name (λ other. refl) (b.call y)) m fs
+  sent-alike : (used : Bool) (m : Name) (fs : List Frame)
+      → flat_map (range_steps_of used calls-now m) fs ≡ flat_map (range_steps_of used b.call m) fs
+  sent-alike used m fs =
+      ranges-alike used b.call calls-now (λ y. read-up is_sent_by_range name (λ other. refl) (b.call y)) m fs
 
   leaves : (m : Name) → m ≢ name → DirectoryLeaves d (directory_of kept_world) m
   leaves m g =
@@ -166,13 +187,14 @@ module _ (script : Script) (w : World) (b : Beside) (holds : Holds script w [] b
       record {
         directory = leaves m g;
         used_is = refl;
+        part_is = refl;
         body_is = refl;
         deed_is = ap (λ t. if t then InTable 1 else b.deed m) (other-name name m (λ e. g (sym e)));
-        held_is = get-put-other-name n.deeds name (body_in b.kernel name) m g;
+        held_is = get-put-other-name n.deeds name (b.body name) m g;
         begins_is = λ holds_it comes. refl;
         hand_is = no-parcel-kept name m hand given-object items-for;
-        steps_are = λ y. steps-alike m (kept-changes.left y 1);
-        ranges_are = λ y. sent-alike m (kept-changes.left y 1);
+        steps_are = λ used y. steps-alike used m (kept-changes.left y 1);
+        ranges_are = λ used y. sent-alike used m (kept-changes.left y 1);
       }
 
   -- ---- the name
@@ -184,7 +206,7 @@ module _ (script : Script) (w : World) (b : Beside) (holds : Holds script w [] b
             ap (λ t. if t then Some x.body else None) (eq-eqb 1 y (sym e))
             ∙ subst (λ z. Some x.body ≡ held_at kept_world name z) (sym e)
             (sym (ap (λ (m : Node). get_named m.deeds name) kept-changes.here
-            ∙ get-put-same-name n.deeds name (body_in b.kernel name)))
+            ∙ get-put-same-name n.deeds name (b.body name)))
         | inr g ↦
             ap (λ t. if t then Some x.body else None) (ne_eqb 1 y (λ e. g (sym e)))
             ∙ sym (ap (λ (m : Node). get_named m.deeds name) (kept-changes.others y g)
@@ -258,6 +280,7 @@ module _ (script : Script) (w : World) (b : Beside) (holds : Holds script w [] b
         maker = ap (λ z. maker z name) (sym directory-now);
         stays = λ y. ap (λ z. stays z y) (sym directory-now);
         used = refl;
+        part = refl;
         body = refl;
         deed = sym (ap (λ t. if t then InTable 1 else b.deed name) (same-name name name refl));
         held = held-now;
@@ -267,12 +290,13 @@ module _ (script : Script) (w : World) (b : Beside) (holds : Holds script w [] b
         kept = λ pid. ap (filter (is_parcel_with name)) (sym (held-elsewhere (Proc pid) (process-is-other pid)));
         hand = sym (no-parcel-kept name name hand given-object items-for);
         begins = begins-now;
-        steps = λ y. sym (steps-alike name (frames_to kept_world y 1)
-            ∙ made-same script 1 w kept_world after takes [] [] kept-changes (λ t s fs. plays b.call name fs)
+        steps = λ y. sym (steps-alike x.used name (frames_to kept_world y 1)
+            ∙ made-same script 1 w kept_world after takes [] [] kept-changes (λ t s fs. plays x.used b.call name fs)
             (λ t s. flat_map-is-list-map _) (refl, tt) tt y 1);
-        ranges = λ y. sym (sent-alike name (frames_to kept_world y 1)
+        ranges = λ y. sym (sent-alike x.used name (frames_to kept_world y 1)
             ∙ made-same script 1 w kept_world after takes [] [] kept-changes
-            (λ t s fs. flat_map (range_steps_of b.call name) fs) (λ t s. flat_map-is-list-map _) (refl, tt) tt y 1);
+            (λ t s fs. flat_map (range_steps_of x.used b.call name) fs) (λ t s. flat_map-is-list-map _) (refl, tt) tt y
+            1);
         placed = λ y. sym (made-same script 1 w kept_world after takes [] [] kept-changes
             (λ t s fs. placed_in name fs) (λ t s. flat_map-is-list-map _) (refl, tt) tt 1 y);
         news = λ y. ap (λ z. news name (x.used && is_maker (maker z name) y) (frames_to w 1 y)) (sym directory-now)
@@ -332,6 +356,106 @@ module _ (script : Script) (w : World) (b : Beside) (holds : Holds script w [] b
             sender);
         held = held-for-now y;
         hand = refl;
+        waiters = λ m. refl;
+      }
+
+  -- ---- withdrawals
+
+  -- what is held for the name, by any test
+  kept-for-now : (test : Held → Bool) (m : Name)
+      → (if is_one_of m (name ∷ []) then [] else filter test (held_for d m))
+      ≡ filter test (held_for (directory_of kept_world) m)
+  kept-for-now test m =
+      elim (name-cases m name) [
+        | inl e ↦
+            subst (λ z. (if is_one_of z (name ∷ []) then [] else filter test (held_for d z))
+            ≡ filter test (held_for (directory_of kept_world) z)) (sym e)
+            (ap (λ t. if t || false then [] else filter test (held_for d name)) (same-name name name refl)
+            ∙ ap (filter test) (sym held-none-now))
+        | inr g ↦
+            ap (λ t. if t || false then [] else filter test (held_for d m)) (other-name m name g)
+            ∙ ap (filter test) (sym (held-elsewhere m g))
+      ]
+
+  in-hand-so : (test : Held → Bool) → flat_map (λ m. filter test (held_for d m)) (name ∷ []) ++ [] ≡ filter test hand
+  in-hand-so test = append-nil (filter test hand ++ []) ∙ append-nil (filter test hand)
+
+  module _ (known_here : is_known d name ≡ true) where
+    still-known : (m : Name) → is_known (directory_of kept_world) m ≡ is_known d m
+    still-known m =
+        elim (name-cases m name) [
+          | inl e ↦
+              subst (λ y. is_known (directory_of kept_world) y ≡ is_known d y) (sym e)
+              (ap (λ z. is_known z name) directory-now ∙ ap (λ o. not (is_none o)) (place-with-same d name (At 1))
+              ∙ sym known_here)
+          | inr g ↦
+              ap (λ z. is_known z m) directory-now
+              ∙ ap (λ o. not (is_none o)) (place-with-other d name (At 1) m g)
+        ]
+
+    cancel-now : (y : ℕ)
+        → SameCancel (released_cancel (name ∷ []) (cancel_sight w [] b y)) (cancel_sight kept_world hand kept_beside y)
+    cancel-now y =
+        record {
+          number = read (λ (m : Node). m.number) refl y;
+          pid = read (λ (m : Node). m.pid) refl y;
+          caller = read (λ (m : Node). m.caller) refl y;
+          call = sym (up-is-released name (b.call y));
+          cancel = refl;
+          cancels = λ to sender. same-frames (λ t s. is_cancel_of y) (refl, tt) to sender;
+          held_cancels = kept-for-now (is_held_cancel_of y);
+          hand_cancels = in-hand-so (is_held_cancel_of y);
+          of_call = λ to sender. same-frames (is_of_call y ticket) (refl, tt) to sender
+              ∙ ap (λ k. filter (is_of_call y k to sender) (frames_to kept_world to sender)) ticket-same;
+          held_of_call = λ m. kept-for-now (is_held_of_call y ticket) m
+              ∙ ap (λ k. filter (is_held_of_call y k) (held_for (directory_of kept_world) m)) ticket-same;
+          hand_of_call = in-hand-so (is_held_of_call y ticket)
+              ∙ ap (λ k. filter (is_held_of_call y k) hand) ticket-same;
+          nowhere = λ call is may l. record {
+            node = l.node;
+            is = up-is-released name (b.call y) ∙ l.is;
+            leaves = ap (λ z. stays z l.node) directory-now ∙ l.leaves;
+            unknown = still-known _ ∙ l.unknown;
+          };
+        }
+      where
+        ticket : ℕ
+        ticket = let m : Node = node_of w y in m.caller.ticket
+
+        ticket-same : ticket ≡ (let m : Node = node_of kept_world y in m.caller.ticket)
+        ticket-same = read (λ (m : Node). m.caller.ticket) refl y
+
+        same-frames : (test : ℕ → ℕ → Frame → Bool)
+            → AllByRecursion (λ s. filter (test 1 s.0) (s.1 ∷ []) ≡ []) takes
+            → (to sender : ℕ)
+            → filter (test to sender) (frames_to w to sender) ≡ filter (test to sender) (frames_to kept_world to sender)
+        same-frames test none to sender =
+            sym (made-same script 1 w kept_world after takes [] [] kept-changes (λ t s fs. filter (test t s) fs)
+            (λ t s. filter-is-list-map (test t s)) none tt to sender)
+
+    -- All holds of withdrawals.
+    cancels-now : (y : ℕ) → 1 ≤ y → y ≤ node_count script
+        → CancelHolds y Nothing (cancel_sight kept_world hand kept_beside y)
+    cancels-now y low high =
+        cancel-if-same y Nothing (released_cancel (name ∷ []) (cancel_sight w [] b y))
+        (cancel_sight kept_world hand kept_beside y) refl (cancel-now y)
+        (cancel-comes-home (name ∷ []) y Nothing (cancel_sight w [] b y) (refl, tt) (holds.cancels y low high))
+
+  -- and of the kernel in which callers wait
+
+  leaves-whole : LeavesWhole w kept_world b kept_beside
+  leaves-whole =
+      record {
+        journal_is = kept-changes.journal ∙ append-nil w.journal;
+        lines_are = refl;
+        kernel_is = refl;
+        whole_is = refl;
+        pids_are = λ y. refl;
+        bodies_are = λ m. refl;
+        marks_still = λ y a lives marks.
+            subst (λ o. HasMarks (taken_up name (b.call y)) o a) (read (λ (m : Node). m.caller.under_way) refl y)
+            (subst (λ c. HasMarks c (under_way_at w y) a) (sym (up-is-released name (b.call y)))
+            (marks-released (name ∷ []) (b.call y) (under_way_at w y) a marks));
       }
 
   -- ---- all else
@@ -366,8 +490,8 @@ module _ (script : Script) (w : World) (b : Beside) (holds : Holds script w [] b
             (node-born script b.pids (is_born_in w) (is_born_in kept_world) 1 after more
             (node-with-directory script b.pids (is_born_in w) 1 _ (arrive d name 1) refl
             (let stage = leader-stage script b.pids (is_born_in w) 1 n refl node-was
-            in node-with-objects script b.pids (is_born_in w) 1 n (put_named n.deeds name (body_in b.kernel name))
-            n.watches stage.0 stage.1 (processes-with n.deeds name (body_in b.kernel name) given-object) node-was))))
+            in node-with-objects script b.pids (is_born_in w) 1 n (put_named n.deeds name (b.body name))
+            n.watches stage.0 stage.1 (processes-with n.deeds name (b.body name) given-object) node-was))))
       ]
 
   leading-now : IsLeading (directory_of kept_world)
@@ -391,8 +515,8 @@ module _ (script : Script) (w : World) (b : Beside) (holds : Holds script w [] b
   kept-in-hand to items place =
       record {
         shape = kept-changes.shape;
-        history = subst (λ j. HasHistory script j b.kernel b.places)
-            (sym (kept-changes.journal ∙ append-nil w.journal)) holds.history;
+        history = holds.history;
+        whole = whole-left-alone w kept_world b kept_beside Nothing leaves-whole holds.whole;
         leading = leading-now;
         pids = holds.pids;
         nodes = nodes-now;
@@ -401,6 +525,7 @@ module _ (script : Script) (w : World) (b : Beside) (holds : Holds script w [] b
         calls = λ y low high. call-stays script y (is_born_in w) (is_born_in kept_world)
             (up_sight (call_sight w [] b y) name) (call_sight kept_world hand kept_beside y) more (call-now y)
             (call-up script y (is_born_in w) (call_sight w [] b y) name refl (holds.calls y low high));
+        cancels = cancels-now (ap (λ o. not (is_none o)) place);
         ways = λ y low high. way-stays script b.pids y (knows_parent script w b.pids y)
             (knows_parent script kept_world b.pids y) (way_sight w y) (way_sight kept_world y)
             (known-still (Proc (b.pids (forker script y))))

@@ -133,6 +133,8 @@ pub name-home : (script : Script) (pids : ℕ → ℕ) (born : ℕ → Bool) (na
     → x.deed ≡ InGiveBack q → NameHolds script pids born name (home_sight x first)
 name-home script pids born name x to items q first h place deed =
     record {
+      parts = h.parts;
+      callers = h.callers;
       made = (λ e. absurd (not-unmade e), λ u. absurd (was-unmade (sym deed ∙ h.made.1 u)));
       place_fits = refl;
       tables = λ y. refl;

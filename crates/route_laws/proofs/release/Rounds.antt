@@ -14,7 +14,8 @@ use Rattle.world_laws.specs.Places.{Beside}
 use Rattle.world_laws.specs.Sights.{node_of, directory_of, stage_of}
 use Rattle.world_laws.specs.Ways.{HasSender, IsParcelOf, at_hand, under_way_of}
 use Rattle.world_laws.specs.Families.{PidsHold}
-use Rattle.world_laws.specs.Invariant.{Holds, IsLeading}
+use Rattle.world_laws.specs.Cancels.{Owing}
+use Rattle.world_laws.specs.Invariant.{HoldsOwing, IsLeading}
 use Rattle.world_laws.proofs.Changes.{Changes}
 use Rattle.world_laws.proofs.Middles.{changes-further}
 use Rattle.route_laws.proofs.release.Parcels.{PlacesRise, parcels_among}
@@ -23,8 +24,8 @@ use Rattle.route_laws.proofs.release.EndedParcels.{IsPacked}
 
 -- ---- the leader in the middle of its event
 
-module _ (script : Script) (v : World) (s : Step) (hand : List Held) (b : Beside)
-    (holds : Holds script (world_after v 1 s) hand b) where
+module _ (script : Script) (v : World) (s : Step) (hand : List Held) {owes : Owing} (b : Beside)
+    (holds : HoldsOwing script (world_after v 1 s) hand owes b) where
   high-one : 1 ≤ node_count script
   high-one =
       let pids : PidsHold script b.pids b.places b.kernel = holds.pids
@@ -47,8 +48,8 @@ module _ (script : Script) (v : World) (s : Step) (hand : List Held) (b : Beside
       in subst (λ (n : Node). PlacesRise n.leader.directory) leader-in-step leads.processes
 
 -- the deeds of a parcel in hand are of processes, by rising number
-pub first-is-packed : (script : Script) (w : World) (parcel : Parcel) (rest : List Held) (b : Beside)
-    → Holds script w (Ending parcel ∷ rest) b → IsPacked parcel
+pub first-is-packed : (script : Script) (w : World) (parcel : Parcel) (rest : List Held) {owes : Owing} (b : Beside)
+    → HoldsOwing script w (Ending parcel ∷ rest) owes b → IsPacked parcel
 first-is-packed script w parcel rest b holds =
     let sender : HasSender script b.pids (stage_of w) (under_way_of w) parcel =
     holds.parcels parcel

@@ -1,5 +1,5 @@
--- A call that is routed leaves no more parcels held than there were.
-use Rattle.std.proofs.Common.{◌≡◌, ℕ, ◌≤◌, Bool, true, false, ◌&&◌, not, if◌then◌else◌, List, [], ◌∷◌, ◌++◌, length, nat_eq, Option, Some, None, option_map, Result, Ok, Err, refl, ap, sym, subst, arith}
+-- A call or a withdrawal that is routed leaves no more parcels held than there were.
+use Rattle.std.proofs.Common.{◌≡◌, ◌∙◌, ℕ, ◌≤◌, Bool, true, false, ◌&&◌, not, if◌then◌else◌, List, [], ◌∷◌, ◌++◌, length, nat_eq, Option, Some, None, option_map, Result, Ok, Err, refl, ap, sym, subst, arith}
 use Rattle.pico_base.specs.declared.call.Call.{Call}
 use Rattle.pico_base.specs.declared.call.Call.TheVariants as calls
 use Rattle.pico_base.specs.declared.call.Home.{Home}
@@ -21,6 +21,9 @@ use Rattle.key_table.specs.declared.KeyAnswer.TheVariants as answers
 use Rattle.number_maps.specs.Maps.{get}
 use Rattle.kernel_model.specs.Queue.{empty_queue}
 use Rattle.kernel_model.specs.SemaphoreSet.{SemaphoreSet, new_set}
+use Rattle.waiting_model.specs.declared.callers.Wake.{Wake}
+use Rattle.waiting_model.specs.Calls.{withdrawn_from}
+use Rattle.waiting_model.specs.Waiters.{unawaited}
 use Rattle.node_model.specs.declared.held.Held.TheVariants.{Request}
 use Rattle.node_model.specs.declared.route.Route.{Route}
 use Rattle.node_model.specs.declared.route.Route.TheVariants as routes
@@ -28,14 +31,15 @@ use Rattle.node_model.specs.Kinds.{Named, get_named, for_kind, put_named, put_al
 use Rattle.node_model.specs.Bodies.{Body, AQueue, ASet}
 use Rattle.node_model.specs.Directory.{Directory, Place, At, Coming, place_of, with_place, place_name, is_known, hold_at, recall, items_of, parcels_in, parcels_held, route, stays, has_more, upcoming}
 use Rattle.node_model.specs.Leases.{lease_of}
-use Rattle.node_model.specs.Serving.{Served, serve, has_read}
-use Rattle.node_model.specs.Watches.{with_read, moves_to}
+use Rattle.node_model.specs.Entries.{outcome_with}
+use Rattle.node_model.specs.Serving.{Leaves, NotHeld, NotThere, Served, Withdrawn, serve, waiting_as, withdraw}
+use Rattle.node_model.specs.Watches.{last_move, with_reads}
 use Rattle.world_model.specs.Node.{Node, Leader, is_leader, under_way_as}
-use Rattle.world_model.specs.Step.{Step, with_node, with_deeds, with_directory, send, enter, reply_here, reply_to, carry_out}
+use Rattle.world_model.specs.Step.{Step, with_node, with_deeds, with_directory, with_strike, send, enter, enter_with, reply_at, reply_here, reply_if, carry_out, carry_out_waking, wake_all, wake_one}
 use Rattle.world_model.specs.Numbers.{Taken, take_first, take_from, take_from_next, take_number, with_next_range, knows_any}
-use Rattle.world_model.specs.Serving.{grant_held, grant, move_to, note_read, serve_asked, serve_asked_with}
+use Rattle.world_model.specs.Serving.{grant_held, grant, has_room, is_struck, move_to, note_reads, serve_asked, serve_asked_with, withdraw_by, withdraw_here}
 use Rattle.world_model.specs.Keys.{bind, make_bound, make_queue, make_set, get_queue, get_set, create_set, get_by_key}
-use Rattle.world_model.specs.Routes.{hold_item, recall_and_hold, unbind_name, forward, route_by, remove_by, remove_here, route_home, route_call, was_removed}
+use Rattle.world_model.specs.Routes.{cancel, cancel_by, hold_item, recall_and_hold, unbind_name, forward, route_by, remove_by, remove_here, route_held, route_held_by, route_home, route_call, was_removed}
 use Rattle.route_laws.proofs.release.Parcels.{PlacesRise, parcels_among, among-both, no-more-held, with-place-rises}
 
 -- the leader's directory in a step
@@ -68,21 +72,39 @@ reply-here-same : (script : Script) (s : Step) (reply : Reply) (o : Option Call)
 reply-here-same script s reply None = refl
 reply-here-same script s reply (Some call) = refl
 
-reply-to-same : (script : Script) (s : Step) (asked : Asked) (reply : Reply)
-    → directory_in (reply_to script s asked reply) ≡ directory_in s
-reply-to-same script s asked reply = by-test (nat_eq asked.caller s.node.number)
+reply-at-same : (script : Script) (s : Step) (caller ticket : ℕ) (reply : Reply)
+    → directory_in (reply_at script s caller ticket reply) ≡ directory_in s
+reply-at-same script s caller ticket reply = by-test (nat_eq caller s.node.number)
   where
     by-test : (t : Bool)
         → directory_in
-        (if t then reply_here script s reply (under_way_as s.node asked.ticket)
-        else send s asked.caller (frames.Answer asked.ticket reply))
+        (if t then reply_here script s reply (under_way_as s.node ticket)
+        else send s caller (frames.Answer ticket reply))
         ≡ directory_in s
-    by-test true = reply-here-same script s reply (under_way_as s.node asked.ticket)
+    by-test true = reply-here-same script s reply (under_way_as s.node ticket)
     by-test false = refl
 
 carried-same : (script : Script) (s : Step) (asked : Asked) (reply : Reply)
     → directory_in (carry_out script s asked reply) ≡ directory_in s
-carried-same script s asked reply = reply-to-same script (enter s asked.pid asked.call reply) asked reply
+carried-same script s asked reply =
+    reply-at-same script (enter s asked.pid asked.call reply) asked.caller asked.ticket reply
+
+reply-if-same : (script : Script) (s : Step) (asked : Asked) (own : Option Reply)
+    → directory_in (reply_if script s asked own) ≡ directory_in s
+reply-if-same script s asked None = refl
+reply-if-same script s asked (Some reply) = reply-at-same script s asked.caller asked.ticket reply
+
+wakes-same : (script : Script) (s : Step) (wakes : List Wake)
+    → directory_in (wake_all script s wakes) ≡ directory_in s
+wakes-same script s [] = refl
+wakes-same script s (w ∷ wakes) =
+    wakes-same script (wake_one script s w) wakes ∙ reply-at-same script s w.caller w.ticket w.reply
+
+woken-same : (script : Script) (s : Step) (asked : Asked) (own : Option Reply) (wakes : List Wake)
+    → directory_in (carry_out_waking script s asked own wakes) ≡ directory_in s
+woken-same script s asked own wakes =
+    let entered : Step = enter_with s asked.pid asked.call (outcome_with own wakes)
+    in wakes-same script (reply_if script entered asked own) wakes ∙ reply-if-same script entered asked own
 
 carried-no-more : (script : Script) (s : Step) (asked : Asked) (reply : Reply)
     → HoldsNoMore s (carry_out script s asked reply)
@@ -107,48 +129,51 @@ move-no-more s name (Some to) r = by-tests (is_leader s.node) (stays (directory_
     by-tests true false = omega arith
     by-tests false u = omega arith
 
-read-no-more : (s : Step) (name : Name) (reader : ℕ) → PlacesRise (directory_in s)
-    → HoldsNoMore s (note_read s name reader)
-read-no-more s name reader r =
+reads-no-more : (s : Step) (name : Name) (readers : List ℕ) → PlacesRise (directory_in s)
+    → HoldsNoMore s (note_reads s name readers)
+reads-no-more s name readers r =
     let n : Node = s.node
-    in move-no-more (with_node s (record n { watches = with_read n.watches n.number name reader })) name
-    (moves_to n.watches n.number name reader) r
+    in move-no-more (with_node s (record n { watches = with_reads n.watches n.number name readers })) name
+    (last_move n.watches n.number name readers) r
 
 -- ---- a call is served
 
-abbrev done_with : Script → Step → Asked → Served → Step
-done_with script s asked served =
-    carry_out script (with_deeds s (put_all s.node.deeds served.changes)) asked served.reply
+abbrev done_with : Script → Step → Name → Asked → Served → Step
+done_with script s name asked served =
+    carry_out_waking script
+    (with_deeds (with_strike s (is_struck s.node name asked.call)) (put_all s.node.deeds served.changes)) asked
+    served.own served.wakes
 
-done-same : (script : Script) (s : Step) (asked : Asked) (served : Served)
-    → directory_in (done_with script s asked served) ≡ directory_in s
-done-same script s asked served =
-    carried-same script (with_deeds s (put_all s.node.deeds served.changes)) asked served.reply
+done-same : (script : Script) (s : Step) (name : Name) (asked : Asked) (served : Served)
+    → directory_in (done_with script s name asked served) ≡ directory_in s
+done-same script s name asked served =
+    woken-same script
+    (with_deeds (with_strike s (is_struck s.node name asked.call)) (put_all s.node.deeds served.changes)) asked
+    served.own served.wakes
 
 served-no-more : (script : Script) (s : Step) (name : Name) (asked : Asked) (served : Served)
     → PlacesRise (directory_in s) → HoldsNoMore s (serve_asked_with script s name asked served)
-served-no-more script s name asked served r = by-test (has_read asked.call served.reply)
-  where
-    same : directory_in (done_with script s asked served) ≡ directory_in s
-    same = done-same script s asked served
-
-    by-test : (t : Bool)
-        → HoldsNoMore s
-        (if t then note_read (done_with script s asked served) name asked.caller else done_with script s asked served)
-    by-test true =
-        omega (
-          arith,
-          read-no-more (done_with script s asked served) name asked.caller
-              (subst (λ (d : Directory). PlacesRise d) (sym same) r),
-          ap parcels_held same,
-        )
-    by-test false = same-is-no-more s (done_with script s asked served) same
+served-no-more script s name asked served r =
+    let done : Step = done_with script s name asked served
+    in let same : directory_in done ≡ directory_in s = done-same script s name asked served
+    in omega (
+      arith,
+      reads-no-more done name served.readers (subst (λ (d : Directory). PlacesRise d) (sym same) r),
+      ap parcels_held same,
+    )
 
 serve-no-more : (script : Script) (s : Step) (name : Name) (asked : Asked) → PlacesRise (directory_in s)
     → NoMoreIn s (serve_asked script s name asked)
-serve-no-more script s name asked r =
-    map-no-more s (serve_asked_with script s name asked) (λ served. served-no-more script s name asked served r)
-    (serve s.node.deeds asked.pid asked.call)
+serve-no-more script s name asked r = by-test (has_room s name asked)
+  where
+    by-test : (t : Bool)
+        → NoMoreIn s
+        (if t then option_map (serve_asked_with script s name asked) (serve s.node.deeds (waiting_as asked))
+        else Some s)
+    by-test true =
+        map-no-more s (serve_asked_with script s name asked)
+        (λ served. served-no-more script s name asked served r) (serve s.node.deeds (waiting_as asked))
+    by-test false = omega arith
 
 unbind-same : (refused : Bool) (name : Name) (t : Step)
     → directory_in (unbind_name refused name t) ≡ directory_in t
@@ -290,7 +315,8 @@ queue-made : (script : Script) (s : Step) (asked : Asked) (key : ℕ) (t : Taken
 queue-made script s asked key t e =
     omega (
       arith,
-      ap parcels_held (bound-made script (with_node s t.node) asked (Msg t.number) (AQueue empty_queue) t.number
+      ap parcels_held (bound-made script (with_node s t.node) asked (Msg t.number) (AQueue (unawaited empty_queue))
+          t.number
           (record (leader_in t.node) { queue_keys = bind (leader_in t.node).queue_keys key t.number 0 })),
       queue-placed t.node.leader.directory t.number t.node.number,
       ap (λ (p : Named Place). parcels_in p.processes) e,
@@ -302,7 +328,7 @@ set-made : (script : Script) (s : Step) (asked : Asked) (key : ℕ) (set : Semap
 set-made script s asked key set t e =
     omega (
       arith,
-      ap parcels_held (bound-made script (with_node s t.node) asked (Sem t.number) (ASet set) t.number
+      ap parcels_held (bound-made script (with_node s t.node) asked (Sem t.number) (ASet (unawaited set)) t.number
           (record (leader_in t.node) {
             set_keys = bind (leader_in t.node).set_keys key t.number (length set.semaphores);
           })),
@@ -350,8 +376,41 @@ home-no-more script s asked (homes.Removal name) r =
     removed-no-more script s name asked (route (directory_in s) name) r
 home-no-more script s asked homes.Parent r = tt
 
--- A call that is routed leaves no more parcels held.
+call-no-more : (script : Script) (s : Step) (asked : Asked) → PlacesRise (directory_in s)
+    → NoMoreIn s (route_call script s asked)
+call-no-more script s asked r = home-no-more script s asked (home_of asked.pid asked.call) r
+
+-- ---- a withdrawal
+
+withdrawn-no-more : (script : Script) (s : Step) (name : Name) (asked : Asked) (w : Withdrawn)
+    → HoldsNoMore s (withdraw_by script s name asked w)
+withdrawn-no-more script s name asked (Leaves body) =
+    same-is-no-more s (withdraw_by script s name asked (Leaves body)) (carried-same script _ asked _)
+withdrawn-no-more script s name asked NotThere = omega arith
+withdrawn-no-more script s name asked NotHeld = omega arith
+
+cancelled-no-more : (script : Script) (s : Step) (name : Name) (asked : Asked) (to : Route)
+    → PlacesRise (directory_in s) → HoldsNoMore s (cancel_by script s name asked to)
+cancelled-no-more script s name asked (routes.At node) r = by-test (nat_eq node s.node.number)
+  where
+    by-test : (t : Bool)
+        → HoldsNoMore s (if t then withdraw_here script s name asked else cancel s node asked)
+    by-test true = withdrawn-no-more script s name asked (withdraw s.node.deeds name asked.pid asked.ticket)
+    by-test false = omega arith
+cancelled-no-more script s name asked routes.Coming r = held-no-more s name asked r
+cancelled-no-more script s name asked (routes.Range node) r = omega arith
+cancelled-no-more script s name asked routes.Nobody r = omega arith
+
+-- ---- what was held
+
+by-withdrawal : (script : Script) (s : Step) (asked : Asked) (o : Option Name) → PlacesRise (directory_in s)
+    → NoMoreIn s (route_held_by script s asked o)
+by-withdrawal script s asked None r = call-no-more script s asked r
+by-withdrawal script s asked (Some name) r =
+    cancelled-no-more script s name asked (route (directory_in s) name) r
+
+-- A call or a withdrawal that was held and is routed leaves no more parcels held.
 pub route-holds-no-more : (script : Script) (s next : Step) (asked : Asked) → PlacesRise (directory_in s)
-    → route_call script s asked ≡ Some next → HoldsNoMore s next
+    → route_held script s asked ≡ Some next → HoldsNoMore s next
 route-holds-no-more script s next asked r e =
-    subst (NoMoreIn s) e (home-no-more script s asked (home_of asked.pid asked.call) r)
+    subst (NoMoreIn s) e (by-withdrawal script s asked (withdrawn_from asked.call) r)

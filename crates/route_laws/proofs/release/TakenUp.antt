@@ -13,13 +13,14 @@ use Rattle.rpc_frame.specs.declared.frame.Frame.{Frame}
 use Rattle.rpc_frame.specs.declared.frame.Frame.TheVariants as frames
 use Rattle.node_model.specs.declared.held.Held.{Held}
 use Rattle.node_model.specs.declared.held.Held.TheVariants.{Request}
-use Rattle.node_model.specs.Kinds.{is_same_name}
+use Rattle.node_model.specs.Kinds.{is_object, is_same_name}
+use Rattle.node_model.specs.Serving.{waiting_as}
 use Rattle.world_model.specs.Node.{Stage, Unborn, Living, Leaving, Left, Over}
 use Rattle.world_model.specs.Calls.{is_for_others}
 use Rattle.world_laws.specs.Places.{CallPlace, IsHeld, IsInHand, InAnswer, Ends}
-use Rattle.world_laws.specs.Plays.{is_call_on, is_sent_by_place, steps_of, steps_if, IsNeeded, plays}
+use Rattle.world_laws.specs.Plays.{is_call_on, is_lasting, needs_by, steps_of, steps_if, IsNeeded, plays}
 use Rattle.world_laws.specs.Names.{is_sent_by_range, range_steps_of, range_steps_if, IsSentThere}
-use Rattle.world_laws.specs.Callers.{CallSight, CallHolds, HasCall, HasCallOrNone, IsNowhere, IsJustThere, IsToBeMade, HasEnded, FreeIn, IsSoFar, IsBetween, asked_of, only_if, is_in_stream, frame_at, is_held_at, is_in_hand, is_on, is_end_place, may_be_in, lease_is_over}
+use Rattle.world_laws.specs.Callers.{CallSight, CallHolds, HasCall, HasCallOrNone, IsNowhere, IsJustThere, IsToBeMade, HasEnded, FreeIn, IsSoFar, IsBetween, asked_of, only_if, is_in_stream, frame_at, is_held_at, is_in_hand, is_on, is_end_place, is_waiting_at, may_be_in, lease_is_over}
 use Rattle.world_laws.proofs.Named.{same-name-is}
 
 -- what was held for the name is in hand
@@ -48,30 +49,31 @@ read-up f name same place = refl
 
 -- ---- what is on its way
 
--- which calls were sent by place says what frames are for a name
-pub plays-alike : (call changed : ℕ → CallPlace)
-    → ((y : ℕ) → is_sent_by_place (changed y) ≡ is_sent_by_place (call y)) → (name : Name) (fs : List Frame)
-    → plays changed name fs ≡ plays call name fs
-plays-alike call changed same name [] = refl
-plays-alike call changed same name (f ∷ fs) =
-    ap (λ ss. ss ++ plays changed name fs) (step-alike f)
-    ∙ ap (λ ss. steps_of call name f ++ ss) (plays-alike call changed same name fs)
+-- which calls were sent, and how, says what frames are for a name
+pub plays-alike : (used : Bool) (call changed : ℕ → CallPlace)
+    → ((lasting : Bool) (y : ℕ) → needs_by lasting (changed y) ≡ needs_by lasting (call y)) → (name : Name)
+    (fs : List Frame) → plays used changed name fs ≡ plays used call name fs
+plays-alike used call changed same name [] = refl
+plays-alike used call changed same name (f ∷ fs) =
+    ap (λ ss. ss ++ plays used changed name fs) (step-alike f)
+    ∙ ap (λ ss. steps_of used call name f ++ ss) (plays-alike used call changed same name fs)
   where
-    step-alike : (f : Frame) → steps_of changed name f ≡ steps_of call name f
+    step-alike : (f : Frame) → steps_of used changed name f ≡ steps_of used call name f
     step-alike (frames.Forward asked) =
-        ap (λ t. steps_if (is_call_on name asked && t) IsNeeded) (same asked.caller)
+        ap (λ t. steps_if (is_call_on name asked && t) IsNeeded)
+        (same (used && (is_object name && is_lasting asked)) asked.caller)
     step-alike f = refl
 
 -- and which were sent by range
-pub ranges-alike : (call changed : ℕ → CallPlace)
+pub ranges-alike : (used : Bool) (call changed : ℕ → CallPlace)
     → ((y : ℕ) → is_sent_by_range (changed y) ≡ is_sent_by_range (call y)) → (name : Name) (fs : List Frame)
-    → flat_map (range_steps_of changed name) fs ≡ flat_map (range_steps_of call name) fs
-ranges-alike call changed same name [] = refl
-ranges-alike call changed same name (f ∷ fs) =
-    ap (λ ss. ss ++ flat_map (range_steps_of changed name) fs) (step-alike f)
-    ∙ ap (λ ss. range_steps_of call name f ++ ss) (ranges-alike call changed same name fs)
+    → flat_map (range_steps_of used changed name) fs ≡ flat_map (range_steps_of used call name) fs
+ranges-alike used call changed same name [] = refl
+ranges-alike used call changed same name (f ∷ fs) =
+    ap (λ ss. ss ++ flat_map (range_steps_of used changed name) fs) (step-alike f)
+    ∙ ap (λ ss. range_steps_of used call name f ++ ss) (ranges-alike used call changed same name fs)
   where
-    step-alike : (f : Frame) → range_steps_of changed name f ≡ range_steps_of call name f
+    step-alike : (f : Frame) → range_steps_of used changed name f ≡ range_steps_of used call name f
     step-alike (frames.Forward asked) =
         ap (λ t. range_steps_if (is_call_on name asked && t) IsSentThere) (same asked.caller)
     step-alike f = refl
@@ -174,6 +176,8 @@ module _ (script : Script) (p : ℕ) (born : ℕ → Bool) (x : CallSight) (name
         in_hand = h.held_for_names name
             ∙ ap (λ t. only_if t (Request asked))
             (sym (hand-is-held x.call name (none-in-hand x.call asked (sym none ∙ h.in_hand))));
+        waiting = λ m. h.waiting m
+            ∙ sym (read-up (λ z. only_if (is_waiting_at z m) (waiting_as asked)) name (λ other. refl) x.call);
       }
 
   has-up : (call : Call) → HasCall script p born x call → HasCall script p born up call
@@ -187,6 +191,7 @@ module _ (script : Script) (p : ℕ) (born : ℕ → Bool) (x : CallSight) (name
         so_far = carried-up (λ z. IsSoFar script p up call z) name (λ other g. g) x.call
             (so-far-up call x.call h.so_far);
         at_work = h.at_work;
+        started = h.started;
         tickets = h.tickets;
         try_left = h.try_left;
       }
@@ -199,6 +204,7 @@ module _ (script : Script) (p : ℕ) (born : ℕ → Bool) (x : CallSight) (name
           in_streams = nowhere.in_streams;
           held_for_names = λ m. none-held (is_same_name name m) (x.held m) (nowhere.held_for_names m);
           in_hand = nowhere.held_for_names name;
+          waiting = nowhere.waiting;
         };
         idle = ap (taken_up name) h.idle;
         free = free-up x.stage h.free;

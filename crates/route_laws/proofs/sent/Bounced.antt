@@ -13,14 +13,15 @@ use Rattle.node_model.specs.declared.held.Held.TheVariants.{Request}
 use Rattle.node_model.specs.Kinds.{is_same_name}
 use Rattle.node_model.specs.Directory.{Place, maker}
 use Rattle.entry_laws.specs.Entering.{is_used_name}
-use Rattle.world_model.specs.Calls.{is_on_name_or_removal}
 use Rattle.world_model.specs.Node.{Node}
 use Rattle.world_model.specs.World.{World}
 use Rattle.world_laws.specs.Places.{CallPlace, InBounce, Beside, call_in}
 use Rattle.world_laws.specs.Sights.{node_of, directory_of, frames_to, is_born_in}
 use Rattle.world_laws.specs.Plays.{News, NeedsPlace, Tells, believed, finds_place, is_call_on, is_home_on, news, news_if, news_of, placed_by, placed_in, told}
+use Rattle.world_laws.specs.Callers.{may_be_in}
 use Rattle.world_laws.specs.Names.{NameHolds, NameSight, is_maker, is_nowhere, maker_tells, name_sight}
 use Rattle.world_laws.specs.Invariant.{Holds}
+use Rattle.world_laws.proofs.Cancels.{may_be_withdrawn}
 use Rattle.world_laws.proofs.Changes.{Changes, frames_if, sent}
 use Rattle.world_laws.proofs.Named.{same-name, same-name-is}
 use Rattle.route_laws.proofs.hand.Routes.{IsOn}
@@ -76,14 +77,12 @@ pub call-on : (name : Name) (home : Home) → IsOn name home → (m : Name) → 
 call-on name home (inl e) m = ap (is_home_on m) e
 call-on name home (inr e) m = ap (is_home_on m) e
 
-goes-home : (name : Name) (home : Home) → IsOn name home → is_on_name_or_removal home ≡ true
-goes-home name home (inl e) = ap is_on_name_or_removal e
-goes-home name home (inr e) = ap is_on_name_or_removal e
-
 -- ---- the event
 
 module _ (script : Script) (w : World) (b : Beside) (p : ℕ) (asked : Asked) (g : HasInHand script w b p asked)
     (other : p ≢ 1) (name : Name) (on : IsOn name (home_of asked.pid asked.call))
+    (back : may_be_in (InBounce p) (home_of asked.pid asked.call) asked.call ≡ true)
+    (never : may_be_withdrawn asked.pid asked.call ≡ false)
     (used : is_used_name b.kernel name ≡ true) (made : maker (directory_of w) name ≡ Some p) (w' : World)
     (c : Changes script p w w' (node_of w p) [] ((1, frames.Bounce asked) ∷ []) []) where
   abbrev frame : Frame
@@ -113,13 +112,15 @@ module _ (script : Script) (w : World) (b : Beside) (p : ℕ) (asked : Asked) (g
         on_way = refl;
         frame_is = refl;
         in_stream = λ t q. refl;
-        home = goes-home name (home_of asked.pid asked.call) on;
+        home = back;
         between = other;
+        never = never;
         other = λ e. other (sym e);
         about = eq-eqb asked.caller asked.caller refl;
         about_none = λ y d. ne_eqb asked.caller y (λ e. d (sym e));
         plain = refl;
         no_birth = refl;
+        no_cancel = λ y. refl;
         no_lease = λ kind. refl;
         may_be = refl;
         caller = record { number = refl; pid = refl; stage = refl; caller = refl; leases = refl };
@@ -128,7 +129,7 @@ module _ (script : Script) (w : World) (b : Beside) (p : ℕ) (asked : Asked) (g
         node = holds.nodes p g.low_node g.high_node;
       }
 
-  only-news : (m : Name) → IsOnlyNews calls-now m frame
+  only-news : (m : Name) → IsOnlyNews (is_used_name b.kernel m) calls-now m frame
   only-news m = record { no_deed = refl; no_checkpoint = refl; no_place = refl; no_steps = refl; no_ranges = refl }
 
   abbrev is-made : ℕ → Bool

@@ -1,5 +1,5 @@
 -- A node takes a frame with a call, of another node or of its own: in the middle of the event the call is in hand.
-use Rattle.std.proofs.Common.{◌≡◌, ◌≢◌, ◌⊎◌, ℕ, ◌≤◌, Bool, true, false, ◌&&◌, not, cond, if◌then◌else◌, List, [], ◌∷◌, ◌++◌, filter, flat_map, nat_eq, is_some, Some, refl, ap, sym, subst, ◌∙◌, inl, inr}
+use Rattle.std.proofs.Common.{◌≡◌, ◌≢◌, ◌⊎◌, ℕ, ◌≤◌, Bool, true, false, ◌&&◌, not, cond, if◌then◌else◌, List, [], ◌∷◌, ◌++◌, filter, flat_map, nat_eq, is_some, Some, refl, ap, sym, subst, ◌∙◌, inl, inr, arith}
 use Rattle.std.proofs.lemmas.Bool.{cases_eq, eq-eqb, ne_eqb, false≢true}
 use Rattle.std.proofs.lemmas.List.Elements.{Contains-push_cases}
 use Rattle.pico_base.specs.declared.call.Call.{Call}
@@ -13,8 +13,11 @@ use Rattle.rpc_frame.specs.declared.deed.Parcel.{Parcel}
 use Rattle.rpc_frame.specs.declared.frame.Frame.{Frame}
 use Rattle.node_model.specs.declared.held.Held.{Held}
 use Rattle.node_model.specs.declared.held.Held.TheVariants.{Request, Ending}
+use Rattle.waiting_model.specs.Calls.{is_withdrawal}
+use Rattle.node_model.specs.Bodies.{waiters_of}
 use Rattle.node_model.specs.Kinds.{for_kind, get_named}
 use Rattle.node_model.specs.Directory.{Directory, held_for, is_parcel, is_parcel_with, maker, place_of, stays}
+use Rattle.node_model.specs.Serving.{waiting_as}
 use Rattle.world_model.specs.Census.{brings}
 use Rattle.world_model.specs.Node.{Node}
 use Rattle.world_model.specs.Step.{step_to}
@@ -25,17 +28,25 @@ use Rattle.entry_laws.specs.Entering.{is_used_name}
 use Rattle.world_laws.specs.Sights.{node_of, frames_to, directory_of, stage_of, is_born_in}
 use Rattle.world_laws.specs.Plays.{begin, has_any, is_checkpoint_of, news, placed_in, plays}
 use Rattle.world_laws.specs.Names.{NameHolds, NameSight, comes_to, forker, held_at, is_maker, name_sight, range_steps_of}
-use Rattle.world_laws.specs.Callers.{CallSight, call_sight, CallHolds, HasCall, HasCallOrNone, IsToBeMade, IsJustThere, asked_of, only_if, is_in_stream, frame_at, is_held_at, is_about, is_item_about, is_end_place}
+use Rattle.world_laws.specs.Callers.{CallSight, call_sight, CallHolds, HasCall, HasCallOrNone, IsToBeMade, IsJustThere, asked_of, only_if, is_in_stream, frame_at, is_held_at, is_about, is_item_about, is_end_place, is_waiter_of, is_waiting_at}
+use Rattle.world_laws.specs.Cancels.{CancelIf, Nothing, Owing, Wakes, cancel_sight, is_cancel_of, is_held_cancel_of}
 use Rattle.world_laws.specs.Ranges.{lease_in, has_lease}
-use Rattle.world_laws.specs.Invariant.{Holds}
+use Rattle.world_laws.specs.Invariant.{Holds, HoldsOwing}
+use Rattle.world_laws.specs.Wholes.{HasWhole, WholeIf}
+use Rattle.world_laws.proofs.Cancels.{SameCancel, may_be_withdrawn}
+use Rattle.world_laws.proofs.Following.{SameOld}
+use Rattle.rule_laws.proofs.Withdrawals.{old-still}
+use Rattle.route_laws.proofs.sent.Uncancelled.{is_parked_place, uncancelled-goes}
 use Rattle.world_laws.proofs.Stays.{IsMore, SameCall, SameName, call-stays, name-stays, kind-stays}
 use Rattle.world_laws.proofs.Changes.{Changes, filter-is-list-map, flat_map-is-list-map, made-same, only-stayed, read-same}
 use Rattle.world_laws.proofs.Frames.{concerns, is_plain}
-use Rattle.world_laws.proofs.LeftAlone.{same-directory, name-left-alone, kind-left-alone, few-still}
+use Rattle.world_laws.proofs.LeftAlone.{SameCaller, same-directory, name-left-alone, kind-left-alone, few-still}
 use Rattle.world_laws.proofs.Steps.{Heads, world_without, changes-by-take}
 use Rattle.world_laws.proofs.Heads.{rest-stays, others-stay}
-use Rattle.rule_laws.proofs.CallMoves.{IsCallMove, same-but-call, call-move-keeps, move-born, steps-still, ranges-still}
-use Rattle.route_laws.proofs.hand.HandMoves.{placed_at}
+use Rattle.rule_laws.proofs.CallMoves.{IsCallMove, cancel-if-same, same-but-call, call-move-keeps, move-born, steps-still, ranges-still}
+use Rattle.route_laws.proofs.hand.HandMoves.{about-caller, no-held-cancel, placed_at}
+use Rattle.route_laws.proofs.Onwards.{whole-goes-on}
+use Rattle.world_laws.proofs.Wholes.{is_to_be_made}
 
 -- the call that a frame from node q brings to node p: it was in this frame alone, and it is still to be made
 pub record IsBrought (script : Script) (w : World) (b : Beside) (p q : ℕ) (frame : Frame) (asked : Asked) : Type 0
@@ -49,6 +60,9 @@ pub record IsBrought (script : Script) (w : World) (b : Beside) (p q : ℕ) (fra
     pub for_others : is_for_others (home_of asked.pid asked.call) ≡ true
     pub to_be_made : IsToBeMade script asked.caller (call_sight w [] b asked.caller) call
     -- where it is
+    pub is_call : is_withdrawal asked.call ≡ false
+    pub is_made_yet : is_to_be_made (b.call asked.caller) ≡ true
+    pub no_waiter : (name : Name) → is_waiting_at (b.call asked.caller) name ≡ false
     pub not_end : is_end_place (b.call asked.caller) ≡ false
     pub no_lease : (kind : Kind) → has_lease kind (b.call asked.caller) ≡ false
     pub no_item : (name : Name) → is_held_at (b.call asked.caller) name ≡ false
@@ -60,6 +74,7 @@ pub record IsBrought (script : Script) (w : World) (b : Beside) (p q : ℕ) (fra
     pub of_no_other : (y : ℕ) → y ≢ asked.caller → is_about y p q frame ≡ false
     pub plain : is_plain frame ≡ true
     pub no_birth : is_checkpoint frame ≡ false
+    pub no_cancel : (y : ℕ) → is_cancel_of y frame ≡ false
     pub brings_no_lease : (kind : Kind) → lease_in kind frame ≡ []
 
 -- a frame that is nothing for the name but what it is in the play, and for the range of its number
@@ -68,6 +83,11 @@ pub record IsOnlyPlayed (name : Name) (frame : Frame) : Type 0 where
   pub no_checkpoint : filter (is_checkpoint_of name) (frame ∷ []) ≡ []
   pub no_place : placed_in name (frame ∷ []) ≡ []
   pub no_news : (made : Bool) → news name made (frame ∷ []) ≡ []
+
+-- what is owed then: nothing, or the withdrawals come last
+abbrev pub waking_if : Bool → Owing
+waking_if true = Wakes
+waking_if false = Nothing
 
 -- the world with the call in hand
 abbrev pub brought_world : World → ℕ → ℕ → List Frame → World
@@ -85,7 +105,7 @@ and-false false = refl
 
 module _ (script : Script) (w : World) (b : Beside) (holds : Holds script w [] b) (p q : ℕ) (frame : Frame)
     (rest : List Frame) (h : Heads script w p q frame rest) (asked : Asked)
-    (u : IsBrought script w b p q frame asked) where
+    (u : IsBrought script w b p q frame asked) (waking : Bool) where
   abbrev caller : ℕ
   caller = asked.caller
 
@@ -111,7 +131,7 @@ module _ (script : Script) (w : World) (b : Beside) (holds : Holds script w [] b
   hand = Request asked ∷ []
 
   -- what taking the frame changes
-  pub brought-changes : Changes script p w next n takes [] []
+  abbrev pub brought-changes : Changes script p w next n takes [] []
   brought-changes = changes-by-take script w holds.shape p q frame rest (step_to n) h tt
 
   -- no node changes
@@ -175,12 +195,34 @@ module _ (script : Script) (w : World) (b : Beside) (holds : Holds script w [] b
   held-nowhere name =
       just-there.held_for_names name ∙ ap (λ t. only_if t (Request (asked_of x u.call))) (u.no_item name)
 
-  move : IsCallMove script w next [] hand b b.deed calls-now p n takes [] caller
+  waits-nowhere : (name : Name) → filter (is_waiter_of caller) (waiters_of (b.body name)) ≡ []
+  waits-nowhere name =
+      just-there.waiting name ∙ ap (λ t. only_if t (waiting_as (asked_of x u.call))) (u.no_waiter name)
+
+  same-caller : SameCaller n n
+  same-caller = record { number = refl; pid = refl; stage = refl; caller = refl; leases = refl }
+
+  abbrev then_owed : Owing
+  then_owed = waking_if waking
+
+  whole-then : (t : Bool) → WholeIf Nothing w b → WholeIf (waking_if t) next moved
+  whole-then true h = tt
+  whole-then false h =
+      whole-goes-on script p w next n takes [] brought-changes b caller (b.call caller) IsInHand refl same-caller
+      u.is_made_yet refl Nothing h
+
+  owed-then : (t : Bool) (y : ℕ)
+      → SameCancel (cancel_sight w [] b y) (cancel_sight next hand moved y)
+      → CancelIf y Nothing (cancel_sight w [] b y) → CancelIf y (waking_if t) (cancel_sight next hand moved y)
+  owed-then true y same h = tt
+  owed-then false y same h = cancel-if-same y Nothing _ _ refl same h
+
+  move : IsCallMove script w next [] hand Nothing then_owed b moved p n takes [] caller
   move =
       record {
         stage = refl;
         under_way = λ left. refl;
-        own = λ d. record { number = refl; pid = refl; stage = refl; caller = refl; leases = refl };
+        own = λ d. same-caller;
         queue_keys = refl;
         set_keys = refl;
         directory = same-but-call caller (directory_of w) (directory_of next) brought-directory holds.leading;
@@ -192,18 +234,25 @@ module _ (script : Script) (w : World) (b : Beside) (holds : Holds script w [] b
           | inl none ↦ none
           | inr new ↦ absurd (request-no-parcel asked parcel new)
         ];
+        whole = whole-then waking;
+        waiters_of_others = λ y d name. refl;
+        cancel_of_others = λ y d. refl;
+        owed_of_others = λ y d. owed-then waking y;
         plain_taken = (u.plain, tt);
         plain_sent = tt;
         no_birth_taken = (u.no_birth, tt);
         no_birth_sent = tt;
         of_no_other = λ y d. (u.of_no_other y d, tt);
         sent_of_no_other = λ y d. tt;
+        no_cancel_taken = λ y d. (u.no_cancel y, tt);
+        no_cancel_sent = λ y d. tt;
         may_be_sent = tt;
         to_others = tt;
       }
 
   more : IsMore (is_born_in w) (is_born_in next)
-  more = move-born script w next [] hand b b.deed calls-now p n takes [] caller h.low h.high holds brought-changes move
+  more = move-born script w next [] hand Nothing then_owed b moved p n takes [] [] caller h.low h.high holds
+      brought-changes move
 
   read : {A : Type 0} (f : Node → A) → f (node_of w caller) ≡ f (node_of next caller)
   read f = sym (ap f (brought-nodes caller))
@@ -230,7 +279,8 @@ module _ (script : Script) (w : World) (b : Beside) (holds : Holds script w [] b
         held = λ name. sym (ap (λ d. filter (is_item_about caller) (held_for d name)) brought-directory
             ∙ held-nowhere name);
         hand = ap (λ a. Request a ∷ []) (sym u.asked_is)
-            ∙ sym (ap (λ t. cond t (Request asked ∷ []) []) (eq-eqb caller caller refl));
+            ∙ sym (ap (λ t. cond t (Request asked ∷ []) []) (about-caller asked u.is_call));
+        waiters = λ name. sym (waits-nowhere name);
       }
 
   still-to-be-made : IsToBeMade script caller in-hand u.call
@@ -247,12 +297,14 @@ module _ (script : Script) (w : World) (b : Beside) (holds : Holds script w [] b
                 in_streams = λ to sender. refl;
                 held_for_names = λ name. refl;
                 in_hand = refl;
+                waiting = λ name. refl;
               };
               home = subst (λ (a : Asked). is_for_others (home_of a.pid a.call) ≡ true) u.asked_is u.for_others;
               used_up = tt;
               between = tt;
               so_far = still-to-be-made;
               at_work = has.at_work;
+              started = has.started;
               tickets = has.tickets;
               try_left = has.try_left;
             });
@@ -261,6 +313,23 @@ module _ (script : Script) (w : World) (b : Beside) (holds : Holds script w [] b
 
   call-now : CallHolds script caller (is_born_in next) (call_sight next hand moved caller)
   call-now = call-stays script caller (is_born_in w) (is_born_in next) _ _ more sight-now call-in-hand
+
+  -- its old withdrawals are where they were
+  old-there : SameOld (cancel_sight w [] b caller) (cancel_sight next hand moved caller)
+  old-there =
+      old-still script p w next n takes [] [] brought-changes [] hand b moved caller (read (λ (m : Node). m.pid))
+      (let same = read (λ (m : Node). m.caller.ticket) in omega (arith, same))
+      (λ name. ap (λ d. filter (is_held_cancel_of caller) (held_for d name)) brought-directory)
+      (ap (λ t. cond t (Request asked ∷ []) []) (no-held-cancel asked caller u.is_call)) (u.no_cancel caller, tt) tt
+
+  pub cancel-brought : may_be_withdrawn x.pid u.call ≡ false → (t : Bool)
+      → CancelIf caller (waking_if t) (cancel_sight next hand moved caller)
+  cancel-brought cannot true = tt
+  cancel-brought cannot false =
+      uncancelled-goes caller (cancel_sight w [] b caller) (cancel_sight next hand moved caller) u.call old-there
+      (read (λ (m : Node). m.caller)) refl u.is cannot
+      (ap (λ t. is_parked_place (if t then IsInHand else b.call caller)) (eq-eqb caller caller refl))
+      (holds.cancels caller u.low u.high)
 
   lease-same : (kind : Kind) (y : ℕ) → has_lease kind (calls-now y) ≡ has_lease kind (b.call y)
   lease-same kind y =
@@ -273,17 +342,19 @@ module _ (script : Script) (w : World) (b : Beside) (holds : Holds script w [] b
 
   -- ---- names
 
-  steps-left : (m : Name) (y : ℕ)
-      → plays calls-now m (brought-changes.left y 1) ≡ plays b.call m (brought-changes.left y 1)
-  steps-left m y =
-      steps-still script w next [] hand b b.deed calls-now p n takes [] caller h.low h.high holds brought-changes move y
-      (left-alone y 1) m
+  steps-left : (used : Bool) (m : Name) (y : ℕ)
+      → plays used calls-now m (brought-changes.left y 1) ≡ plays used b.call m (brought-changes.left y 1)
+  steps-left used m y =
+      steps-still script w next [] hand Nothing then_owed b moved p n takes [] [] caller h.low h.high holds
+      brought-changes
+      move used y (left-alone y 1) m
 
-  ranges-left : (m : Name) (y : ℕ) → flat_map (range_steps_of calls-now m) (brought-changes.left y 1)
-      ≡ flat_map (range_steps_of b.call m) (brought-changes.left y 1)
-  ranges-left m y =
-      ranges-still script w next [] hand b b.deed calls-now p n takes [] caller h.low h.high holds brought-changes
-      move y (left-alone y 1) m
+  ranges-left : (used : Bool) (m : Name) (y : ℕ)
+      → flat_map (range_steps_of used calls-now m) (brought-changes.left y 1)
+      ≡ flat_map (range_steps_of used b.call m) (brought-changes.left y 1)
+  ranges-left used m y =
+      ranges-still script w next [] hand Nothing then_owed b moved p n takes [] [] caller h.low h.high holds
+      brought-changes move used y (left-alone y 1) m
 
   -- A name that the frame isn't about keeps all that holds of it.
   pub name-not-brought : (m : Name) → concerns m frame ≡ false
@@ -294,21 +365,22 @@ module _ (script : Script) (w : World) (b : Beside) (holds : Holds script w [] b
       (record {
         directory = same-directory (directory_of w) (directory_of next) brought-directory m;
         used_is = refl;
+        part_is = refl;
         body_is = refl;
         deed_is = refl;
         held_is = refl;
         begins_is = λ holds_it comes. refl;
         hand_is = refl;
-        steps_are = steps-left m;
-        ranges_are = ranges-left m;
+        steps_are = λ used. steps-left used m;
+        ranges_are = λ used. ranges-left used m;
       }) (away, tt) tt) (holds.names m)
 
   -- what is left in the streams from the leader, for a name
   abbrev pub left_sight : Name → NameSight
   left_sight m =
       record (name_sight script w [] b m) {
-        steps = λ y. plays b.call m (brought-changes.left y 1);
-        ranges = λ y. flat_map (range_steps_of b.call m) (brought-changes.left y 1);
+        steps = λ y. plays (is_used_name b.kernel m) b.call m (brought-changes.left y 1);
+        ranges = λ y. flat_map (range_steps_of (is_used_name b.kernel m) b.call m) (brought-changes.left y 1);
       }
 
   -- A name that the frame is only played for is seen with the rest of the play.
@@ -320,6 +392,7 @@ module _ (script : Script) (w : World) (b : Beside) (holds : Holds script w [] b
         maker = sym (ap (λ d. maker d m) brought-directory);
         stays = λ y. sym (ap (λ d. stays d y) brought-directory);
         used = refl;
+        part = refl;
         body = refl;
         deed = refl;
         held = λ y. sym (ap (λ (z : Node). get_named z.deeds m) (brought-nodes y));
@@ -328,11 +401,12 @@ module _ (script : Script) (w : World) (b : Beside) (holds : Holds script w [] b
         kept = λ pid. sym (ap (λ d. filter (is_parcel_with m) (held_for d (Proc pid))) brought-directory);
         hand = refl;
         begins = begins-same;
-        steps = λ y. sym (only-stayed script p w next n takes [] [] brought-changes (λ t s fs. plays calls-now m fs)
-            (λ t s. flat_map-is-list-map _) tt y 1 ∙ steps-left m y);
+        steps = λ y. sym (only-stayed script p w next n takes [] [] brought-changes
+            (λ t s fs. plays used calls-now m fs)
+            (λ t s. flat_map-is-list-map _) tt y 1 ∙ steps-left used m y);
         ranges = λ y. sym (only-stayed script p w next n takes [] [] brought-changes
-            (λ t s fs. flat_map (range_steps_of calls-now m) fs) (λ t s. flat_map-is-list-map _) tt y 1
-            ∙ ranges-left m y);
+            (λ t s fs. flat_map (range_steps_of used calls-now m) fs) (λ t s. flat_map-is-list-map _) tt y 1
+            ∙ ranges-left used m y);
         placed = λ y. sym (made-same script p w next n takes [] [] brought-changes (λ t s fs. placed_in m fs)
             (λ t s. flat_map-is-list-map _) (none.no_place, tt) tt 1 y);
         news = λ y. sym (ap (λ d. news m (is_used_name b.kernel m && is_maker (maker d m) y) (frames_to next 1 y))
@@ -342,6 +416,9 @@ module _ (script : Script) (w : World) (b : Beside) (holds : Holds script w [] b
             (λ t s. flat_map-is-list-map _) (none.no_news _, tt) tt 1 y);
       }
     where
+      used : Bool
+      used = is_used_name b.kernel m
+
       comes-same : (y : ℕ) → comes_to script next m y ≡ comes_to script w m y
       comes-same y =
           ap (λ fs. not (nat_eq (forker script y) 1) && has_any fs)
@@ -361,15 +438,21 @@ module _ (script : Script) (w : World) (b : Beside) (holds : Holds script w [] b
   name-brought m none old =
       name-stays script b.pids (is_born_in w) (is_born_in next) m _ _ more (name-seen-left m none) old
 
-  -- All holds with the call in hand, where it holds for the names.
-  pub brought-keeps : ((m : Name) → NameHolds script b.pids (is_born_in next) m (name_sight script next hand moved m))
-      → Holds script next hand moved
-  brought-keeps names =
-      call-move-keeps script w next [] hand b b.deed calls-now p n takes [] caller h.low h.high holds brought-changes
-      move call-now names
+  -- All holds with the call in hand, where it holds for the names: with its withdrawal, where it has none, or before
+  -- those are looked at.
+  pub brought-keeps : CancelIf caller (waking_if waking) (cancel_sight next hand moved caller)
+      → ((m : Name) → NameHolds script b.pids (is_born_in next) m (name_sight script next hand moved m))
+      → HoldsOwing script next hand (waking_if waking) moved
+  brought-keeps cancel names =
+      call-move-keeps script w next [] hand Nothing then_owed b moved p n takes [] [] caller h.low h.high holds
+      brought-changes move call-now cancel names
       (λ kind. kind-stays (is_born_in w) (is_born_in next) _ _ more
       (kind-left-alone script p w next n takes [] [] brought-changes b.kernel b.kernel kind (λ number. refl) refl
       (ap (λ (d : Directory). for_kind d.ranges kind) brought-directory) (u.brings_no_lease kind, tt) tt)
       (holds.kinds kind))
       (λ kind. few-still script p w next n takes [] [] brought-changes b.call calls-now kind refl
       (ap (λ (d : Directory). for_kind d.ranges kind) brought-directory) (lease-same kind) (holds.few kind))
+
+  -- The kernel in which callers wait stands beside the world then.
+  pub brought-whole : HasWhole next moved
+  brought-whole = whole-then false holds.whole

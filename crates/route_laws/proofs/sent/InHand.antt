@@ -8,14 +8,13 @@ use Rattle.world_laws.specs.Places.{Beside}
 use Rattle.world_laws.specs.Sights.{is_born_in}
 use Rattle.world_laws.specs.Callers.{CallSight, call_sight, CallHolds, HasCall, IsToBeMade, IsSoFar, is_end_place, is_end_stage}
 use Rattle.world_laws.specs.Invariant.{Holds}
-use Rattle.route_laws.proofs.hand.HandMoves.{IsFirst, first}
+use Rattle.route_laws.proofs.hand.HandMoves.{IsCallOf, IsFirst, first}
 
 -- in the middle of an event of node p this call is in hand
 pub record HasInHand (script : Script) (w : World) (b : Beside) (p : ℕ) (asked : Asked) : Type 0 where
   pub low_node : 1 ≤ p
   pub high_node : p ≤ node_count script
-  pub low : 1 ≤ asked.caller
-  pub high : asked.caller ≤ node_count script
+  pub asks : IsCallOf script asked
   pub holds : Holds script w (Request asked ∷ []) b
 
 module _ (script : Script) (w : World) (b : Beside) (p : ℕ) (asked : Asked) (g : HasInHand script w b p asked) where
@@ -28,9 +27,12 @@ module _ (script : Script) (w : World) (b : Beside) (p : ℕ) (asked : Asked) (g
   holds : Holds script w (Request asked ∷ []) b
   holds = g.holds
 
+  asks : IsCallOf script asked
+  asks = g.asks
+
   -- it is the first in hand, and the last
   pub in-hand : IsFirst script caller (is_born_in w) x asked []
-  in-hand = first script w asked [] b holds g.low g.high
+  in-hand = first script w asked [] b holds g.asks
 
   -- it is under way at its caller
   pub is-under-way : HasCall script caller (is_born_in w) x in-hand.call
@@ -41,7 +43,7 @@ module _ (script : Script) (w : World) (b : Beside) (p : ℕ) (asked : Asked) (g
   not-made = subst (λ z. IsSoFar script caller x in-hand.call z) in-hand.place_is is-under-way.so_far
 
   call-holds : CallHolds script caller (is_born_in w) x
-  call-holds = holds.calls caller g.low g.high
+  call-holds = holds.calls caller asks.low asks.high
 
   -- its caller doesn't leave
   pub caller-stays : is_end_stage x.stage ≡ false

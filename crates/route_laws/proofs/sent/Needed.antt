@@ -110,6 +110,8 @@ module _ (script : Script) (pids : ℕ → ℕ) (born : ℕ → Bool) (name : Na
   pub name-head-taken : NameHolds script pids born name (record x { steps = steps; ranges = ranges })
   name-head-taken =
       record {
+        parts = h.parts;
+        callers = h.callers;
         made = h.made;
         place_fits = h.place_fits;
         tables = h.tables;

@@ -14,10 +14,11 @@ use Rattle.kernel_model.specs.Kernel as kernel
 use Rattle.kernel_model.specs.Valid.{IsValid}
 use Rattle.kernel_laws.proofs.ValidLaws.{reachable_kernels_are_valid_lemma}
 use Rattle.entry_laws.specs.Entering.{is_used_name}
+use Rattle.entry_laws.proofs.History.{history-reachable}
 use Rattle.entry_laws.proofs.Numbers.{process-there}
 use Rattle.node_model.specs.declared.held.Held.{Held}
 use Rattle.node_model.specs.Kinds.{is_object}
-use Rattle.node_model.specs.Bodies.{Body, body_in}
+use Rattle.node_model.specs.Bodies.{Body}
 use Rattle.world_model.specs.Census.{brings}
 use Rattle.world_model.specs.Node.{Stage, Unborn}
 use Rattle.world_model.specs.World.{World}
@@ -26,7 +27,8 @@ use Rattle.world_laws.specs.Sights.{frames_to, is_born_in, is_born_stage, stage_
 use Rattle.world_laws.specs.Plays.{Has, has_any, is_checkpoint_of}
 use Rattle.world_laws.specs.Names.{IsBringer, NameHolds, NameSight, OneIf, comes_to, forker, held_at, is_stream_of, may_be_at, name_sight}
 use Rattle.world_laws.specs.Families.{FamilyHolds, IsAwaited, IsWhereFor, checkpoints_to}
-use Rattle.world_laws.specs.Invariant.{Holds, process_deed}
+use Rattle.world_laws.specs.Cancels.{Owing}
+use Rattle.world_laws.specs.Invariant.{HoldsOwing, process_deed}
 use Rattle.world_laws.proofs.NameFacts.{IsHeldAt, begin-has, held-there}
 
 -- ---- a Checkpoint on its way
@@ -110,8 +112,8 @@ its-own c p kernel.Gone h = absurd h
 unborn-not-born : (stage : Stage) → stage ≡ Unborn → is_born_stage stage ≡ true → ⊥
 unborn-not-born stage e h = false≢true (sym (ap is_born_stage e) ∙ h)
 
-module _ (script : Script) (w : World) (hand : List Held) (b : Beside) (holds : Holds script w hand b) (p : ℕ)
-    (born : is_born_in w p ≡ true) (name : Name) where
+module _ (script : Script) (w : World) (hand : List Held) {owes : Owing} (b : Beside)
+    (holds : HoldsOwing script w hand owes b) (p : ℕ) (born : is_born_in w p ≡ true) (name : Name) where
   abbrev x : NameSight
   x = name_sight script w hand b name
 
@@ -125,7 +127,9 @@ module _ (script : Script) (w : World) (hand : List Held) (b : Beside) (holds : 
       in by-process proc.0 proc.1
     where
       valid : IsValid b.kernel
-      valid = reachable_kernels_are_valid_lemma b.kernel (w.journal, holds.history.legal)
+      valid =
+          reachable_kernels_are_valid_lemma b.kernel
+          (history-reachable script b.lines b.kernel b.places holds.history)
 
       not-unmade : (to : ℕ) → InCheckpoint to ≡ Unmade → ⊥
       not-unmade to h = cc
@@ -161,7 +165,7 @@ module _ (script : Script) (w : World) (hand : List Held) (b : Beside) (holds : 
   comes-not =
       and-none (not (nat_eq (forker script p) 1)) (filter (is_checkpoint_of name) (frames_to w p (forker script p)))
       (none-of-fewer (is_checkpoint_of name) (brings name) (checkpoints-bring name) (frames_to w p (forker script p))
-      (not-bringing (forker script) b.pids name (body_in b.kernel name) p (forker script p) _ (b.deed name)
+      (not-bringing (forker script) b.pids name (b.body name) p (forker script p) _ (b.deed name)
       in-no-checkpoint (known.streams p (forker script p))))
 
   or-false : (t u : Bool) → u ≡ false → (t || u) ≡ true → t ≡ true
@@ -175,8 +179,8 @@ module _ (script : Script) (w : World) (hand : List Held) (b : Beside) (holds : 
       by-held : (o : Option Body) → held_at w name p ≡ o → is_some o ≡ true → b.deed name ≡ InTable p
       by-held None e h = absurd (false≢true h)
       by-held (Some body) e h =
-          let at : IsHeldAt (b.deed name) (body_in b.kernel name) p body =
-          held-there (b.deed name) (body_in b.kernel name) p body (sym (known.tables p) ∙ e)
+          let at : IsHeldAt (b.deed name) (b.body name) p body =
+          held-there (b.deed name) (b.body name) p body (sym (known.tables p) ∙ e)
           in at.deed_is
 
   -- and so is one that its play begins with

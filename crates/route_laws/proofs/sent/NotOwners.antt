@@ -21,29 +21,34 @@ use Rattle.world_model.specs.Step.{Step, send, step_to}
 use Rattle.world_model.specs.World.{World, world_after}
 use Rattle.world_laws.specs.Places.{InAsk, IsInHand, Beside, call_in}
 use Rattle.world_laws.specs.Sights.{node_of, is_born_in, is_born_stage}
-use Rattle.world_laws.specs.Callers.{CallHolds, CallSight, HasCall, IsJustThere, IsSoFar, IsToBeMade, asked_of, call_sight, frame_at, is_about, is_end_place, is_held_at, is_in_stream, may_be_in, only_if}
+use Rattle.world_laws.specs.Callers.{CallHolds, CallSight, HasCall, IsJustThere, IsSoFar, IsToBeMade, asked_of, call_sight, frame_at, is_about, is_end_place, is_held_at, is_in_stream, is_waiting_at, may_be_in, only_if}
 use Rattle.world_laws.specs.Families.{NodeHolds}
 use Rattle.world_laws.specs.Invariant.{Holds}
 use Rattle.world_laws.specs.Ranges.{has_lease}
 use Rattle.world_laws.proofs.Changes.{Changes}
 use Rattle.world_laws.proofs.Heads.{head-is}
 use Rattle.world_laws.proofs.Middles.{changes-further}
-use Rattle.world_laws.proofs.Steps.{Heads, world_without}
+use Rattle.world_laws.proofs.Steps.{Heads, take-steps, world_without}
+use Rattle.world_laws.proofs.Cancels.{may_be_withdrawn}
+use Rattle.world_laws.proofs.Wholes.{is_to_be_made}
 use Rattle.rule_laws.proofs.Answers.{Found, find}
 use Rattle.rule_laws.proofs.CallFrames.{IsNotOwnerOf, not-owner-of}
-use Rattle.rule_laws.proofs.own.Moved.{IsMoved}
+use Rattle.rule_laws.proofs.own.Moved.{IsMoved, is_still, moved-twice}
 use Rattle.rule_laws.proofs.own.OwnCases.{Keeps}
+use Rattle.waiting_model.specs.Calls.{is_withdrawal, may_park}
 use Rattle.route_laws.proofs.hand.Answering.{at-work-born}
-use Rattle.route_laws.proofs.sent.Brought.{IsBrought, brought_world, brought-keeps, brought-nodes, name-not-brought}
-use Rattle.route_laws.proofs.sent.Forwards.{has-step, moved-step}
+use Rattle.route_laws.proofs.hand.Asks.{NeverWithdraws}
+use Rattle.route_laws.proofs.sent.Brought.{IsBrought, brought_world, brought-keeps, brought-nodes, cancel-brought, name-not-brought}
 use Rattle.route_laws.proofs.sent.InHand.{HasInHand}
-use Rattle.route_laws.proofs.sent.Requests.{IsAtName, at-name, for-others}
+use Rattle.route_laws.proofs.sent.Requests.{IsAtName, at-name, first-true, for-others}
 use Rattle.route_laws.proofs.sent.SameNodes.{node-with}
 use Rattle.route_laws.proofs.sent.Sent.{GoesOn, name-not-sent, sent-keeps}
-use Rattle.route_laws.proofs.sent.ServeSteps.{node-here}
+use Rattle.route_laws.proofs.sent.Uncancelled.{never-waits}
+use Rattle.route_laws.proofs.served.Turns.{node-at}
 
 module _ (script : Script) (w : World) (b : Beside) (holds : Holds script w [] b) (p q ticket : ℕ)
-    (rest : List Frame) (h : Heads script w p q (frames.NotOwner ticket) rest) (other : p ≢ 1) where
+    (rest : List Frame) (h : Heads script w p q (frames.NotOwner ticket) rest) (other : p ≢ 1)
+    (never : NeverWithdraws script) where
   abbrev frame : Frame
   frame = frames.NotOwner ticket
 
@@ -106,8 +111,18 @@ module _ (script : Script) (w : World) (b : Beside) (holds : Holds script w [] b
   to-be-made : IsToBeMade script p x call
   to-be-made = subst (λ y. IsSoFar script p x call y) is-told.place_is has.so_far
 
+  home-is : (is_on_name (home_of n.pid call) && not (may_park call)) ≡ true
+  home-is = sym (ap (λ y. may_be_in y (home_of n.pid call) call) is-told.place_is) ∙ has.home
+
   on-a-name : is_on_name (home_of n.pid call) ≡ true
-  on-a-name = sym (ap (λ y. may_be_in y (home_of n.pid call) call) is-told.place_is) ∙ has.home
+  on-a-name = first-true (is_on_name (home_of n.pid call)) (not (may_park call)) home-is
+
+  -- so it never waits
+  cannot : may_be_withdrawn n.pid call ≡ false
+  cannot = never-waits n.pid (home_of n.pid call) call home-is
+
+  is-call : is_withdrawal call ≡ false
+  is-call = never p x.caller call to-be-made.due
 
   abbrev on : IsAtName (home_of n.pid call)
   on = at-name (home_of n.pid call) on-a-name
@@ -115,7 +130,7 @@ module _ (script : Script) (w : World) (b : Beside) (holds : Holds script w [] b
   abbrev name : Name
   name = on.name
 
-  brought : IsBrought script w b p q frame asked
+  abbrev brought : IsBrought script w b p q frame asked
   brought =
       record {
         low = h.low;
@@ -126,6 +141,9 @@ module _ (script : Script) (w : World) (b : Beside) (holds : Holds script w [] b
         asked_is = asked-is;
         for_others = for-others (home_of n.pid call) on-a-name;
         to_be_made = to-be-made;
+        is_call = is-call;
+        is_made_yet = ap is_to_be_made is-told.place_is;
+        no_waiter = λ m. ap (λ z. is_waiting_at z m) is-told.place_is;
         not_end = ap is_end_place is-told.place_is;
         no_lease = λ kind. ap (has_lease kind) is-told.place_is;
         no_item = λ m. ap (λ z. is_held_at z m) is-told.place_is;
@@ -135,6 +153,7 @@ module _ (script : Script) (w : World) (b : Beside) (holds : Holds script w [] b
         of_no_other = λ y d. ne_eqb p y (λ e. d (sym e));
         plain = refl;
         no_birth = refl;
+        no_cancel = λ y. refl;
         brings_no_lease = λ kind. refl;
       }
 
@@ -143,10 +162,10 @@ module _ (script : Script) (w : World) (b : Beside) (holds : Holds script w [] b
       record {
         low_node = h.low;
         high_node = h.high;
-        low = h.low;
-        high = h.high;
-        holds = brought-keeps script w b holds p q frame rest h asked brought
-            (λ m. name-not-brought script w b holds p q frame rest h asked brought m refl);
+        asks = record { low = h.low; high = h.high; is_call = is-call };
+        holds = brought-keeps script w b holds p q frame rest h asked brought false
+            (cancel-brought script w b holds p q frame rest h asked brought false cannot false)
+            (λ m. name-not-brought script w b holds p q frame rest h asked brought false m refl);
       }
 
   middle-holds : Holds script middle (Request asked ∷ []) moved
@@ -180,7 +199,7 @@ module _ (script : Script) (w : World) (b : Beside) (holds : Holds script w [] b
 
   born : is_born_in middle p ≡ true
   born =
-      ap (λ (z : Node). is_born_stage z.stage) (brought-nodes script w b holds p q frame rest h asked brought p)
+      ap (λ (z : Node). is_born_stage z.stage) (brought-nodes script w b holds p q frame rest h asked brought false p)
       ∙ at-work-born n.stage has.at_work
 
   abbrev IsOwner : Name × ℕ → Type 0
@@ -200,11 +219,13 @@ module _ (script : Script) (w : World) (b : Beside) (holds : Holds script w [] b
         in_stream = λ t s. refl;
         home = for-others (home_of n.pid call) on-a-name;
         between = other;
+        never = cannot;
         other = λ e. other (sym e);
         about = eq-eqb p p refl;
         about_none = λ y d. ne_eqb p y (λ e. d (sym e));
         plain = refl;
         no_birth = refl;
+        no_cancel = λ y. refl;
         no_lease = λ kind. refl;
         may_be = refl;
         caller = record { number = refl; pid = refl; stage = refl; caller = refl; leases = refl };
@@ -220,7 +241,7 @@ module _ (script : Script) (w : World) (b : Beside) (holds : Holds script w [] b
       let low = h.low
       in let high = h.high
       in subst (λ (z : Node). Changes script p middle (world_after v p after) z [] ((1, asks) ∷ []) [])
-      (ap (λ (z : Node). with_forgotten z name) (sym (node-here script v p n moved asked g)))
+      (ap (λ (z : Node). with_forgotten z name) (sym (node-at script v p (step_to n) middle-holds.shape h.low h.high)))
       (changes-further script v p (step_to n) after ((1, asks) ∷ []) [] middle-holds.shape h.low h.high
       (record { low = omega arith; high = omega (arith, low, high) }, tt)
       (record { sends_are = refl; entries_are = refl }))
@@ -228,16 +249,19 @@ module _ (script : Script) (w : World) (b : Beside) (holds : Holds script w [] b
   -- The event has a step, and all holds after it, with the call in an Ask.
   pub not-owner-taken : Keeps script w (events.Take p q) (λ a. IsMoved b.call a p (λ place. place ≡ InAsk))
   not-owner-taken =
-      moved-step script w b p q p (λ place. place ≡ InAsk)
-      (has-step script w b holds p q frame rest h (Some after) rule
-      (λ a. IsMoved moved.call a p (λ place. place ≡ InAsk))
-      (record {
-        next = after;
-        is = refl;
-        beside = record moved { call = call_in moved.call p InAsk };
-        holds = sent-keeps script middle moved p asked g InAsk 1 asks (record m { cache = forget m.cache name })
-            goes-to-leader (world_after v p after) changes
-            (λ y. name-not-sent script middle moved p asked g InAsk 1 asks
-            (record m { cache = forget m.cache name }) goes-to-leader (world_after v p after) changes y refl);
-        after = record { place = InAsk; calls = λ y. refl; fits = refl };
-      }))
+      record {
+        beside = told;
+        keeps = record {
+          next = world_after v p after;
+          is_step = take-steps script w p q frame rest after holds.shape h rule refl;
+          holds = sent-keeps script middle moved p asked g InAsk 1 asks (record m { cache = forget m.cache name })
+              goes-to-leader (world_after v p after) changes
+              (λ y. name-not-sent script middle moved p asked g InAsk 1 asks
+              (record m { cache = forget m.cache name }) goes-to-leader (world_after v p after) changes y refl);
+        };
+        after = moved-twice b.call told.call p IsInHand (λ place. place ≡ InAsk)
+            (record { place = InAsk; calls = λ y. is_still refl; fits = refl });
+      }
+    where
+      told : Beside
+      told = record moved { call = call_in moved.call p InAsk }

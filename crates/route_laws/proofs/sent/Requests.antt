@@ -7,13 +7,12 @@ use Rattle.pico_base.specs.declared.call.Call.{Call}
 use Rattle.pico_base.specs.declared.call.Home.{Home}
 use Rattle.pico_base.specs.declared.call.Home.TheVariants as homes
 use Rattle.pico_base.specs.declared.numbers.Name.{Name}
-use Rattle.pico_base.specs.declared.script.Event.TheVariants as events
 use Rattle.pico_base.specs.declared.script.Script.{Script}
 use Rattle.pico_base.specs.Home.{home_of}
 use Rattle.rpc_frame.specs.declared.asked.Asked.{Asked}
 use Rattle.rpc_frame.specs.declared.frame.Frame.{Frame}
 use Rattle.rpc_frame.specs.declared.frame.Frame.TheVariants as frames
-use Rattle.kernel_model.specs.Waiting.{is_waiting}
+use Rattle.waiting_model.specs.Calls.{is_withdrawal, may_park}
 use Rattle.node_model.specs.declared.held.Held.{Held}
 use Rattle.node_model.specs.declared.held.Held.TheVariants.{Request}
 use Rattle.node_model.specs.Directory.{Place, At, Coming, place_of}
@@ -26,10 +25,12 @@ use Rattle.world_laws.specs.Places.{CallPlace, InNotOwner, InTable, IsInHand, Be
 use Rattle.world_laws.specs.Sights.{node_of, directory_of, is_born_in, is_born_stage}
 use Rattle.world_laws.specs.Plays.{believed, is_there}
 use Rattle.world_laws.specs.Names.{NameHolds, NameSight, held_as, maker_tells, name_sight}
-use Rattle.world_laws.specs.Callers.{CallHolds, CallSight, HasCall, IsJustThere, IsSoFar, IsToBeMade, asked_of, call_sight, frame_at, is_about, is_end_place, is_held_at, is_in_stream, may_be_in, only_if}
+use Rattle.world_laws.specs.Callers.{CallHolds, CallSight, HasCall, IsJustThere, IsSoFar, IsToBeMade, asked_of, call_sight, frame_at, is_about, is_end_place, is_held_at, is_in_stream, is_waiting_at, may_be_in, only_if}
 use Rattle.world_laws.specs.Families.{NodeHolds}
 use Rattle.world_laws.specs.Invariant.{Holds}
 use Rattle.world_laws.specs.Ranges.{has_lease}
+use Rattle.world_laws.proofs.Cancels.{may_be_withdrawn}
+use Rattle.world_laws.proofs.Wholes.{is_to_be_made}
 use Rattle.world_laws.proofs.Changes.{Changes}
 use Rattle.world_laws.proofs.Heads.{head-from-another, head-is, head-may-be}
 use Rattle.world_laws.proofs.Middles.{changes-further}
@@ -37,16 +38,26 @@ use Rattle.world_laws.proofs.NameFacts.{held-here}
 use Rattle.world_laws.proofs.Steps.{Heads, world_without}
 use Rattle.rule_laws.proofs.Answers.{Found, find}
 use Rattle.rule_laws.proofs.CallFrames.{IsRequestOf, request-of}
-use Rattle.rule_laws.proofs.own.Moved.{IsCarriedOut, IsMoved, IsNotServed}
-use Rattle.rule_laws.proofs.own.OwnCases.{Keeps}
-use Rattle.route_laws.proofs.hand.Asks.{NeverWaits}
-use Rattle.route_laws.proofs.hand.NobodyRoutes.{on-name-served}
-use Rattle.route_laws.proofs.sent.Brought.{IsBrought, brought_world, brought-keeps, brought-nodes, name-not-brought}
-use Rattle.route_laws.proofs.sent.Forwards.{carried-ends, has-step, moved-step}
+use Rattle.rule_laws.proofs.own.Moved.{IsMoved, IsNotServed, is_still}
+use Rattle.route_laws.specs.Ready.{HasFewNodes}
+use Rattle.route_laws.specs.Watching.{WatchesAsOwner}
+use Rattle.route_laws.proofs.Owed.{IsServedPlace, RuleKeeps}
+use Rattle.route_laws.proofs.hand.Asks.{NeverWithdraws}
+use Rattle.route_laws.proofs.hand.HandMoves.{IsCallOf}
+use Rattle.route_laws.proofs.sent.Brought.{IsBrought, brought_world, brought-keeps, brought-nodes, cancel-brought, name-not-brought}
+use Rattle.route_laws.proofs.sent.Forwards.{EndsIn, rule-keeps, served-ends}
 use Rattle.route_laws.proofs.sent.InHand.{HasInHand}
 use Rattle.route_laws.proofs.sent.NoCheckpoint.{in-table}
 use Rattle.route_laws.proofs.sent.Sent.{GoesOn, name-not-sent, sent-keeps}
-use Rattle.route_laws.proofs.sent.ServeSteps.{CarriedOut, EndsIn, ServesInHand, node-here, serves-and-grants, serves-and-suggests, serves-in-hand}
+use Rattle.route_laws.proofs.sent.Uncancelled.{never-waits}
+use Rattle.route_laws.proofs.served.Noting.{ServesAndNotes, serves-at-leader, serves-elsewhere}
+use Rattle.route_laws.proofs.served.Replies.{IsAtWork}
+use Rattle.route_laws.proofs.served.Turns.{node-at}
+
+-- the first of both tests passes
+pub first-true : (a c : Bool) → (a && c) ≡ true → a ≡ true
+first-true true c h = refl
+first-true false c h = absurd (false≢true h)
 
 -- who is born isn't unborn
 not-unborn : (stage : Stage) → is_born_stage stage ≡ true → not (is_unborn stage) ≡ true
@@ -81,14 +92,15 @@ at-name homes.Keys h = absurd (false≢true h)
 at-name (homes.Removal name) h = absurd (false≢true h)
 at-name homes.Parent h = absurd (false≢true h)
 
--- the call of a Request is carried out, or the node says that it isn't the owner, where the call isn't served
+-- the call of a Request is served, or the node says that it isn't the owner, where the call isn't served
 abbrev pub IsRequested : World → ℕ → Asked → CallPlace → Type 0
 IsRequested w p asked place =
-    IsCarriedOut place
+    IsServedPlace (node_of w p) asked place
     ⊎ ((place ≡ InNotOwner p) × IsNotServed (node_of w p) (home_of asked.pid asked.call))
 
 module _ (script : Script) (w : World) (b : Beside) (holds : Holds script w [] b) (p q ticket pid : ℕ) (call : Call)
-    (rest : List Frame) (h : Heads script w p q (frames.Request ticket pid call) rest) where
+    (rest : List Frame) (h : Heads script w p q (frames.Request ticket pid call) rest) (never : NeverWithdraws script)
+    (few : HasFewNodes script) where
   abbrev frame : Frame
   frame = frames.Request ticket pid call
 
@@ -156,10 +168,23 @@ module _ (script : Script) (w : World) (b : Beside) (holds : Holds script w [] b
   to-be-made : IsToBeMade script q x found.call
   to-be-made = subst (λ y. IsSoFar script q x found.call y) is-request.place_is has.so_far
 
+  home-is : (is_on_name (home_of x.pid found.call) && not (may_park found.call)) ≡ true
+  home-is = sym (ap (λ y. may_be_in y (home_of x.pid found.call) found.call) is-request.place_is) ∙ has.home
+
   on-a-name : is_on_name (home_of pid call) ≡ true
   on-a-name =
       subst (λ (a : Asked). is_on_name (home_of a.pid a.call) ≡ true) (sym asked-is)
-      (sym (ap (λ y. may_be_in y (home_of x.pid found.call) found.call) is-request.place_is) ∙ has.home)
+      (first-true (is_on_name (home_of x.pid found.call)) (not (may_park found.call)) home-is)
+
+  -- so it never waits
+  cannot : may_be_withdrawn x.pid found.call ≡ false
+  cannot = never-waits x.pid (home_of x.pid found.call) found.call home-is
+
+  cannot-asked : may_be_withdrawn pid call ≡ false
+  cannot-asked = ap (λ (a : Asked). may_be_withdrawn a.pid a.call) asked-is ∙ cannot
+
+  is-call : is_withdrawal call ≡ false
+  is-call = ap is_withdrawal is-request.call_is ∙ never q x.caller found.call to-be-made.due
 
   abbrev on : IsAtName (home_of pid call)
   on = at-name (home_of pid call) on-a-name
@@ -167,7 +192,7 @@ module _ (script : Script) (w : World) (b : Beside) (holds : Holds script w [] b
   abbrev name : Name
   name = on.name
 
-  brought : IsBrought script w b p q frame asked
+  abbrev brought : IsBrought script w b p q frame asked
   brought =
       record {
         low = h.low_from;
@@ -178,6 +203,9 @@ module _ (script : Script) (w : World) (b : Beside) (holds : Holds script w [] b
         asked_is = asked-is;
         for_others = for-others (home_of pid call) on-a-name;
         to_be_made = to-be-made;
+        is_call = is-call;
+        is_made_yet = ap is_to_be_made is-request.place_is;
+        no_waiter = λ m. ap (λ z. is_waiting_at z m) is-request.place_is;
         not_end = ap is_end_place is-request.place_is;
         no_lease = λ kind. ap (has_lease kind) is-request.place_is;
         no_item = λ m. ap (λ z. is_held_at z m) is-request.place_is;
@@ -186,18 +214,22 @@ module _ (script : Script) (w : World) (b : Beside) (holds : Holds script w [] b
         of_no_other = λ y d. ne_eqb q y (λ e. d (sym e));
         plain = refl;
         no_birth = refl;
+        no_cancel = λ y. refl;
         brings_no_lease = λ kind. refl;
       }
+
+  asks : IsCallOf script asked
+  asks = record { low = h.low_from; high = h.high_from; is_call = is-call }
 
   g : HasInHand script middle moved p asked
   g =
       record {
         low_node = h.low;
         high_node = h.high;
-        low = h.low_from;
-        high = h.high_from;
-        holds = brought-keeps script w b holds p q frame rest h asked brought
-            (λ m. name-not-brought script w b holds p q frame rest h asked brought m refl);
+        asks = asks;
+        holds = brought-keeps script w b holds p q frame rest h asked brought false
+            (cancel-brought script w b holds p q frame rest h asked brought false cannot false)
+            (λ m. name-not-brought script w b holds p q frame rest h asked brought false m refl);
       }
 
   -- it ends in a step, with the call where it may be
@@ -208,26 +240,26 @@ module _ (script : Script) (w : World) (b : Beside) (holds : Holds script w [] b
   middle-holds = g.holds
 
   nodes-same : (y : ℕ) → node_of middle y ≡ node_of w y
-  nodes-same y = brought-nodes script w b holds p q frame rest h asked brought y
+  nodes-same y = brought-nodes script w b holds p q frame rest h asked brought false y
 
   node-holds : NodeHolds script b.pids (is_born_in w) p n
   node-holds = holds.nodes p h.low h.high
 
-  waits-not : NeverWaits script → is_waiting call ≡ false
-  waits-not never = ap is_waiting is-request.call_is ∙ never q x.caller found.call to-be-made.due
-
-  rule : NeverWaits script → take_request script n q ticket pid call ≡ requested_by script n asked (home_of pid call)
-  rule never =
+  rule : take_request script n q ticket pid call ≡ requested_by script n asked (home_of pid call)
+  rule =
       ap (λ t. if t then requested_by script n asked (home_of pid call) else None)
-      (all-true (is_born n) (nat_eq q n.number) (is_waiting call) (not-unborn n.stage born)
-      (ne_eqb q n.number (λ e. other (e ∙ node-holds.number))) (waits-not never))
+      (all-true (is_born n) (nat_eq q n.number) (is_withdrawal call) (not-unborn n.stage born)
+      (ne_eqb q n.number (λ e. other (e ∙ node-holds.number))) is-call)
 
   -- ---- the deed is here
 
-  serves-request : NeverWaits script → b.deed name ≡ InTable p → ServesInHand script v p n asked name moved
-  serves-request never deed =
-      serves-in-hand script v p n moved asked g name on.is
-      (on-name-served pid call name (inl on.is) (waits-not never)) deed
+  at-work : IsAtWork script middle p
+  at-work =
+      record {
+        low = h.low;
+        high = h.high;
+        born = ap (λ (m : Node). is_born_stage m.stage) (nodes-same p) ∙ born;
+      }
 
   -- ---- it isn't
 
@@ -240,13 +272,15 @@ module _ (script : Script) (w : World) (b : Beside) (holds : Holds script w [] b
         on_way = refl;
         frame_is = refl;
         in_stream = λ t s. refl;
-        home = on-a-name;
+        home = ap (λ (a : Asked). may_be_in (InNotOwner p) (home_of a.pid a.call) a.call) asked-is ∙ home-is;
+        never = cannot-asked;
         between = λ e. other (sym e);
         other = other;
         about = eq-eqb q q refl;
         about_none = λ y d. ne_eqb q y (λ e. d (sym e));
         plain = refl;
         no_birth = refl;
+        no_cancel = λ y. refl;
         no_lease = λ kind. refl;
         may_be = ap (λ (m : Node). is_born_stage m.stage) (nodes-same p) ∙ born;
         caller = record { number = refl; pid = refl; stage = refl; caller = refl; leases = refl };
@@ -259,7 +293,7 @@ module _ (script : Script) (w : World) (b : Beside) (holds : Holds script w [] b
       ((q, frames.NotOwner ticket) ∷ []) []
   told-changes =
       subst (λ (m : Node). Changes script p middle (world_after v p told) m [] ((q, frames.NotOwner ticket) ∷ []) [])
-      (sym (node-here script v p n moved asked g))
+      (sym (node-at script v p (step_to n) middle-holds.shape h.low h.high))
       (changes-further script v p (step_to n) told ((q, frames.NotOwner ticket) ∷ []) [] middle-holds.shape h.low
       h.high (record { low = h.low_from; high = h.high_from }, tt) (record { sends_are = refl; entries_are = refl }))
 
@@ -273,7 +307,7 @@ module _ (script : Script) (w : World) (b : Beside) (holds : Holds script w [] b
             goes-back (world_after v p told) told-changes
             (λ m. name-not-sent script middle moved p asked g (InNotOwner p) q (frames.NotOwner ticket)
             (node_of middle p) goes-back (world_after v p told) told-changes m refl);
-        after = record { place = InNotOwner p; calls = λ y. refl; fits = inr (refl, lacks) };
+        after = record { place = InNotOwner p; calls = λ y. is_still refl; fits = inr (refl, lacks) };
       }
 
   by-deed : (t : Bool) → holds_deed n name ≡ t
@@ -282,24 +316,22 @@ module _ (script : Script) (w : World) (b : Beside) (holds : Holds script w [] b
   by-deed true e serve = serve (in-table script w [] b holds p born name e)
   by-deed false e serve = tells (subst (IsNotServed n) (sym on.is) e)
 
-  taken-by : NeverWaits script
-      → (b.deed name ≡ InTable p → EndsIn script v p (serve_asked script (step_to n) name asked) (CarriedOut moved q))
-      → Keeps script w (events.Take p q) (λ after. IsMoved b.call after q (IsRequested w p asked))
-  taken-by never serve =
-      moved-step script w b p q q (IsRequested w p asked)
-      (has-step script w b holds p q frame rest h (requested_by script n asked (home_of pid call)) (rule never)
-      (λ after. IsMoved moved.call after q (IsRequested w p asked))
+  taken-by : (b.deed name ≡ InTable p → ServesAndNotes script v p (step_to n) asked [] moved name)
+      → RuleKeeps script w p q frame rest (λ after. IsMoved b.call after q (IsRequested w p asked))
+  taken-by serve =
+      rule-keeps script w b p q q frame rest (IsRequested w p asked) (requested_by script n asked (home_of pid call))
+      rule
       (subst (λ y. Ends (requested_by script n asked y)) (sym on.is)
       (by-deed (holds_deed n name) refl
-      (λ deed. carried-ends script v p (serve_asked script (step_to n) name asked) moved q (IsRequested w p asked)
-      (λ place over. inl over) (serve deed)))))
+      (λ deed. served-ends script v p (step_to n) asked moved name (IsRequested w p asked)
+      (λ place served. inl served) (serve deed))))
 
-  -- Where a node other than the leader takes a Request, the event has a step, and all holds after it.
-  pub request-taken : NeverWaits script → p ≢ 1
-      → Keeps script w (events.Take p q) (λ after. IsMoved b.call after q (IsRequested w p asked))
-  request-taken never not_leader =
-      taken-by never
-      (λ deed. serves-and-suggests script v p n asked name moved (serves-request never deed) h.low h.high on.is
+  -- Where a node other than the leader takes a Request, the rule has a step, and all holds after it, but for a strike.
+  pub request-taken : p ≢ 1
+      → RuleKeeps script w p q frame rest (λ after. IsMoved b.call after q (IsRequested w p asked))
+  request-taken not_leader =
+      taken-by
+      (λ deed. serves-elsewhere script v p (step_to n) asked [] moved middle-holds at-work asks name on.is deed few
       not_leader)
 
 -- ---- the leader
@@ -336,44 +368,40 @@ module _ (script : Script) (w : World) (hand : List Held) (b : Beside) (holds : 
         ∙ ap is_some (name-holds.tables 1 ∙ ap (λ d. held_as d s.body 1) deed ∙ held-here 1 s.body))
         (told-elsewhere s.maker)
 
-module _ (script : Script) (w : World) (b : Beside) (holds_all : Holds script w [] b) (q ticket pid : ℕ) (call : Call)
-    (rest : List Frame) (head : Heads script w 1 q (frames.Request ticket pid call) rest) (never : NeverWaits script)
-  where
-    leader-serves : b.deed (on script w b holds_all 1 q ticket pid call rest head).name ≡ InTable 1
-        → EndsIn script (world_without w 1 q rest) 1
-        (serve_asked script (step_to (node_of w 1)) (on script w b holds_all 1 q ticket pid call rest head).name
-        (record { caller = q; ticket = ticket; pid = pid; call = call }))
-        (CarriedOut (record b { call = call_in b.call q IsInHand }) q)
-    leader-serves deed =
-        serves-and-grants script (world_without w 1 q rest) (node_of w 1)
-        (record { caller = q; ticket = ticket; pid = pid; call = call })
-        (on script w b holds_all 1 q ticket pid call rest head).name (record b { call = call_in b.call q IsInHand })
-        (serves-request script w b holds_all 1 q ticket pid call rest head never deed) head.high
-        (on script w b holds_all 1 q ticket pid call rest head).is
-        (other script w b holds_all 1 q ticket pid call rest head)
-        (ap (λ (z : Node). place_of z.leader.directory (on script w b holds_all 1 q ticket pid call rest head).name)
-        (nodes-same script w b holds_all 1 q ticket pid call rest head 1)
-        ∙ place-at-leader script w [] b holds_all (on script w b holds_all 1 q ticket pid call rest head).name deed)
+-- Where the leader takes a Request, the rule has a step, too.
+pub request-taken-by-leader : (script : Script) (w : World) (b : Beside) → Holds script w [] b → (q ticket pid : ℕ)
+    (call : Call) (rest : List Frame) → Heads script w 1 q (frames.Request ticket pid call) rest → NeverWithdraws script
+    → HasFewNodes script → WatchesAsOwner (node_of w 1)
+    → RuleKeeps script w 1 q (frames.Request ticket pid call) rest
+    (λ after. IsMoved b.call after q
+    (IsRequested w 1 (record { caller = q; ticket = ticket; pid = pid; call = call })))
+request-taken-by-leader script w b holds q ticket pid call rest head never few watches =
+    taken-by script w b holds 1 q ticket pid call rest head never few
+    (λ deed. serves-at-leader script (world_without w 1 q rest) (step_to (node_of w 1))
+    (record { caller = q; ticket = ticket; pid = pid; call = call }) [] (record b { call = call_in b.call q IsInHand })
+    (middle-holds script w b holds 1 q ticket pid call rest head never few)
+    (at-work script w b holds 1 q ticket pid call rest head never few)
+    (asks script w b holds 1 q ticket pid call rest head never few)
+    (on script w b holds 1 q ticket pid call rest head never few).name
+    (on script w b holds 1 q ticket pid call rest head never few).is deed few watches
+    (ap (λ (z : Node). place_of z.leader.directory (on script w b holds 1 q ticket pid call rest head never few).name)
+    (nodes-same script w b holds 1 q ticket pid call rest head never few 1)
+    ∙ place-at-leader script w [] b holds (on script w b holds 1 q ticket pid call rest head never few).name deed))
 
-    -- Where the leader takes a Request, the event has a step, too.
-    pub request-taken-by-leader : Keeps script w (events.Take 1 q)
-        (λ after. IsMoved b.call after q
-        (IsRequested w 1 (record { caller = q; ticket = ticket; pid = pid; call = call })))
-    request-taken-by-leader =
-        taken-by script w b holds_all 1 q ticket pid call rest head never leader-serves
-
--- Where a node takes a Request, the event has a step, and all holds after it.
+-- Where a node takes a Request, the rule has a step, and all holds after it, but for a strike that it owes.
 pub request-taken-anywhere : (script : Script) (w : World) (b : Beside) → Holds script w [] b → (p q ticket pid : ℕ)
-    (call : Call) (rest : List Frame) → Heads script w p q (frames.Request ticket pid call) rest → NeverWaits script
-    → Keeps script w (events.Take p q)
+    (call : Call) (rest : List Frame) → Heads script w p q (frames.Request ticket pid call) rest → NeverWithdraws script
+    → HasFewNodes script → WatchesAsOwner (node_of w 1)
+    → RuleKeeps script w p q (frames.Request ticket pid call) rest
     (λ after. IsMoved b.call after q
     (IsRequested w p (record { caller = q; ticket = ticket; pid = pid; call = call })))
-request-taken-anywhere script w b holds p q ticket pid call rest head never =
+request-taken-anywhere script w b holds p q ticket pid call rest head never few watches =
     elim (cases_eq p 1) [
-      | inr d ↦ request-taken script w b holds p q ticket pid call rest head never d
+      | inr d ↦ request-taken script w b holds p q ticket pid call rest head never few d
       | inl e ↦
-          subst (λ y. Heads script w y q (frames.Request ticket pid call) rest → Keeps script w (events.Take y q)
+          subst (λ y. Heads script w y q (frames.Request ticket pid call) rest
+          → RuleKeeps script w y q (frames.Request ticket pid call) rest
           (λ after. IsMoved b.call after q
           (IsRequested w y (record { caller = q; ticket = ticket; pid = pid; call = call })))) (sym e)
-          (λ first. request-taken-by-leader script w b holds q ticket pid call rest first never) head
+          (λ first. request-taken-by-leader script w b holds q ticket pid call rest first never few watches) head
     ]

@@ -1,6 +1,6 @@
 -- A call in hand at a node goes on in a frame, and isn't carried out: it comes back to the leader, its caller is told
 -- that the node isn't the owner, or the leader is asked.
-use Rattle.std.proofs.Common.{◌≡◌, ◌≢◌, ℕ, ◌≤◌, Bool, true, false, ◌&&◌, not, cond, if◌then◌else◌, List, [], ◌∷◌, ◌++◌, filter, flat_map, nat_eq, is_some, refl, ap, sym, subst, ◌∙◌, inl, inr}
+use Rattle.std.proofs.Common.{◌≡◌, ◌≢◌, ℕ, ◌≤◌, Bool, true, false, ◌&&◌, not, cond, if◌then◌else◌, List, [], ◌∷◌, ◌++◌, filter, flat_map, nat_eq, is_some, refl, ap, sym, subst, ◌∙◌, inl, inr, arith}
 use Rattle.std.proofs.lemmas.Bool.{cases_eq, eq-eqb, eqb-true, ne_eqb, false≢true}
 use Rattle.std.proofs.lemmas.List.Elements.{Contains-append_right}
 use Rattle.pico_base.specs.declared.call.Call.{Call}
@@ -23,20 +23,29 @@ use Rattle.world_model.specs.World.{World, is_checkpoint}
 use Rattle.entry_laws.specs.Entering.{is_used_name}
 use Rattle.world_laws.specs.Places.{CallPlace, InAsk, InBounce, InNotOwner, Beside, call_in}
 use Rattle.world_laws.specs.Sights.{node_of, frames_to, directory_of, stage_of, is_born_in}
+use Rattle.node_model.specs.Serving.{waiting_as}
 use Rattle.world_laws.specs.Plays.{begin, finds_place, has_any, is_checkpoint_of, news, placed_in, plays}
 use Rattle.world_laws.specs.Names.{NameHolds, NameSight, comes_to, forker, held_at, is_maker, name_sight, range_steps_of}
-use Rattle.world_laws.specs.Callers.{CallHolds, CallSight, HasCall, HasCallOrNone, IsBetween, IsSoFar, IsToBeMade, asked_of, call_sight, frame_at, is_about, is_end_place, is_held_at, is_in_hand, is_in_stream, is_item_about, lease_is_over, may_be_in, only_if}
+use Rattle.world_laws.specs.Callers.{CallHolds, CallSight, HasCall, HasCallOrNone, IsBetween, IsSoFar, IsToBeMade, asked_of, call_sight, frame_at, is_about, is_end_place, is_held_at, is_in_hand, is_in_stream, is_item_about, is_waiting_at, lease_is_over, may_be_in, only_if}
 use Rattle.world_laws.specs.Families.{NodeHolds}
+use Rattle.world_laws.specs.Cancels.{CancelIf, Nothing, cancel_sight, is_cancel_of, is_held_cancel_of}
 use Rattle.world_laws.specs.Invariant.{Holds, MayBe}
+use Rattle.world_laws.specs.Wholes.{WholeIf}
 use Rattle.world_laws.specs.Ranges.{has_lease, lease_in}
 use Rattle.world_laws.proofs.Changes.{Changes, filter-is-list-map, flat_map-is-list-map, frames_if, made-after, made-same, only-stayed, read-same, sent, stayed}
+use Rattle.world_laws.proofs.Cancels.{may_be_withdrawn}
+use Rattle.world_laws.proofs.Following.{SameOld}
+use Rattle.world_laws.proofs.Wholes.{is_to_be_made}
 use Rattle.world_laws.proofs.Frames.{concerns, is_plain}
 use Rattle.world_laws.proofs.LeftAlone.{SameCaller, few-still, kind-left-alone, name-left-alone, same-directory}
 use Rattle.world_laws.proofs.Sends.{frame_if}
 use Rattle.world_laws.proofs.Stays.{IsMore, SameCall, SameName, call-stays, kind-stays, name-stays}
-use Rattle.rule_laws.proofs.CallMoves.{IsCallMove, call-move-keeps, move-born, ranges-still, same-but-call, steps-still}
-use Rattle.route_laws.proofs.hand.HandMoves.{IsFirst, held-for-none, in-no-stream, placed_at}
+use Rattle.rule_laws.proofs.Withdrawals.{old-still}
+use Rattle.rule_laws.proofs.CallMoves.{IsCallMove, call-move-keeps, cancel-if-same, move-born, ranges-still, same-but-call, steps-still}
+use Rattle.route_laws.proofs.Onwards.{whole-goes-on}
+use Rattle.route_laws.proofs.hand.HandMoves.{IsCallOf, IsFirst, held-for-none, in-no-stream, no-held-cancel, placed_at, waits-nowhere}
 use Rattle.route_laws.proofs.sent.InHand.{HasInHand, caller-stays, in-hand, is-under-way, not-made}
+use Rattle.route_laws.proofs.sent.Uncancelled.{is_parked_place, uncancelled-goes}
 
 -- where a call goes that isn't carried out
 abbrev pub is_on_way : CallPlace → Bool
@@ -82,6 +91,24 @@ not-made-there script p x call (InBounce node) h m = m
 not-made-there script p x call (InNotOwner node) h m = m
 not-made-there script p x call place h m = absurd (false≢true h)
 
+not-waiting : (place : CallPlace) (name : Name) → is_on_way place ≡ true → is_waiting_at place name ≡ false
+not-waiting InAsk name h = refl
+not-waiting (InBounce node) name h = refl
+not-waiting (InNotOwner node) name h = refl
+not-waiting place name h = absurd (false≢true h)
+
+made-yet : (place : CallPlace) → is_on_way place ≡ true → is_to_be_made place ≡ true
+made-yet InAsk h = refl
+made-yet (InBounce node) h = refl
+made-yet (InNotOwner node) h = refl
+made-yet place h = absurd (false≢true h)
+
+not-parked : (place : CallPlace) → is_on_way place ≡ true → is_parked_place place ≡ false
+not-parked InAsk h = refl
+not-parked (InBounce node) h = refl
+not-parked (InNotOwner node) h = refl
+not-parked place h = absurd (false≢true h)
+
 -- The call goes on from node p in this frame, to this node. Node p is n now, and as it was but for its cache.
 pub record GoesOn (script : Script) (w : World) (b : Beside) (p : ℕ) (asked : Asked) (place : CallPlace) (to : ℕ)
     (frame : Frame) (n : Node) : Type 0 where
@@ -91,12 +118,15 @@ pub record GoesOn (script : Script) (w : World) (b : Beside) (p : ℕ) (asked : 
   pub in_stream : (t q : ℕ) → is_in_stream place asked.caller t q ≡ (nat_eq t to && nat_eq q p)
   pub home : may_be_in place (home_of asked.pid asked.call) asked.call ≡ true
   pub between : IsBetween asked.caller (is_born_in w) place
+  -- it never waits, so it has no withdrawal
+  pub never : may_be_withdrawn asked.pid asked.call ≡ false
   -- the frame
   pub other : to ≢ p
   pub about : is_about asked.caller to p frame ≡ true
   pub about_none : (y : ℕ) → y ≢ asked.caller → is_about y to p frame ≡ false
   pub plain : is_plain frame ≡ true
   pub no_birth : is_checkpoint frame ≡ false
+  pub no_cancel : (y : ℕ) → is_cancel_of y frame ≡ false
   pub no_lease : (kind : Kind) → lease_in kind frame ≡ []
   pub may_be : MayBe script (is_born_in w) to p frame
   -- the node
@@ -106,12 +136,12 @@ pub record GoesOn (script : Script) (w : World) (b : Beside) (p : ℕ) (asked : 
   pub node : NodeHolds script b.pids (is_born_in w) p n
 
 -- a frame that is nothing for the name but news
-pub record IsOnlyNews (call : ℕ → CallPlace) (name : Name) (frame : Frame) : Type 0 where
+pub record IsOnlyNews (used : Bool) (call : ℕ → CallPlace) (name : Name) (frame : Frame) : Type 0 where
   pub no_deed : filter (brings name) (frame ∷ []) ≡ []
   pub no_checkpoint : filter (is_checkpoint_of name) (frame ∷ []) ≡ []
   pub no_place : placed_in name (frame ∷ []) ≡ []
-  pub no_steps : plays call name (frame ∷ []) ≡ []
-  pub no_ranges : flat_map (range_steps_of call name) (frame ∷ []) ≡ []
+  pub no_steps : plays used call name (frame ∷ []) ≡ []
+  pub no_ranges : flat_map (range_steps_of used call name) (frame ∷ []) ≡ []
 
 sent-one : (caller p to : ℕ) (frame : Frame) → is_about caller to p frame ≡ true → (t q : ℕ) (u v : Bool)
     → nat_eq t to ≡ u → nat_eq q p ≡ v
@@ -162,7 +192,15 @@ module _ (script : Script) (w : World) (b : Beside) (p : ℕ) (asked : Asked) (g
       read-same script p w w' n [] sends [] c (λ (m : Node). m.leader.directory)
       (ap (λ (l : Leader). l.directory) o.leader) 1
 
-  move : IsCallMove script w w' hand [] b b.deed calls-now p n [] sends caller
+  asks : IsCallOf script asked
+  asks = g.asks
+
+  whole-then : WholeIf Nothing w' moved
+  whole-then =
+      whole-goes-on script p w w' n [] sends c b caller (b.call caller) place refl same-caller
+      (ap is_to_be_made f.place_is) (made-yet place o.on_way) Nothing holds.whole
+
+  move : IsCallMove script w w' hand [] Nothing Nothing b moved p n [] sends caller
   move =
       record {
         stage = same-caller.stage;
@@ -176,24 +214,31 @@ module _ (script : Script) (w : World) (b : Beside) (p : ℕ) (asked : Asked) (g
         calls = λ y d. ap (λ t. if t then place else b.call y) (ne_eqb caller y (λ e. d (sym e)));
         hand_of_others = λ y d. sym (ap (λ t. cond t (Request asked ∷ []) []) (ne_eqb caller y (λ e. d (sym e))));
         parcels_at_hand = λ parcel at. Contains-append_right (Request asked ∷ []) [] (Ending parcel) at;
+        whole = λ h. whole-then;
+        waiters_of_others = λ y d name. refl;
+        cancel_of_others = λ y d. refl;
+        owed_of_others = λ y d. cancel-if-same y Nothing _ _ refl;
         plain_taken = tt;
         plain_sent = (o.plain, tt);
         no_birth_taken = tt;
         no_birth_sent = (o.no_birth, tt);
         of_no_other = λ y d. tt;
         sent_of_no_other = λ y d. (o.about_none y d, tt);
+        no_cancel_taken = λ y d. tt;
+        no_cancel_sent = λ y d. (o.no_cancel y, tt);
         may_be_sent = (o.may_be, tt);
         to_others = (o.other, tt);
       }
 
   more : IsMore (is_born_in w) (is_born_in w')
-  more = move-born script w w' hand [] b b.deed calls-now p n [] sends caller g.low_node g.high_node holds c move
+  more = move-born script w w' hand [] Nothing Nothing b moved p n [] sends [] caller g.low_node g.high_node holds c
+      move
 
   left-alone : (t q : ℕ) → filter (is_about caller t q) (c.left t q) ≡ []
   left-alone t q =
       stayed script p w w' n [] sends [] c (λ t q fs. filter (is_about caller t q) fs)
       (λ t q. filter-is-list-map (is_about caller t q)) tt t q
-      ∙ in-no-stream script w asked [] b holds g.low g.high t q
+      ∙ in-no-stream script w asked [] b holds asks t q
 
   read : {A : Type 0} (r : Node → A) → r n ≡ r (node_of w p) → r (node_of w caller) ≡ r (node_of w' caller)
   read r same = sym (read-same script p w w' n [] sends [] c r same caller)
@@ -220,12 +265,14 @@ module _ (script : Script) (w : World) (b : Beside) (p : ℕ) (asked : Asked) (g
                 in_streams = λ to sender. refl;
                 held_for_names = λ name. refl;
                 in_hand = refl;
+                waiting = λ name. refl;
               };
               home = subst (λ (a : Asked). may_be_in place (home_of a.pid a.call) a.call ≡ true) f.asked_is o.home;
               used_up = no-lease-due place x.leases o.on_way;
               between = o.between;
               so_far = not-made-there script caller placed f.call place o.on_way still-to-be-made;
               at_work = has.at_work;
+              started = has.started;
               tickets = has.tickets;
               try_left = has.try_left;
             });
@@ -252,12 +299,33 @@ module _ (script : Script) (w : World) (b : Beside) (p : ℕ) (asked : Asked) (g
             ∙ sent-one caller p to frame o.about t q (nat_eq t to) (nat_eq q p) refl refl);
         held = λ name. ap (λ z. only_if z (Request it)) (not-held place name o.on_way)
             ∙ sym (ap (λ d. filter (is_item_about caller) (held_for d name)) same-directory-now
-            ∙ held-for-none script w asked [] b holds g.low g.high name);
+            ∙ held-for-none script w asked [] b holds asks name);
         hand = ap (λ z. only_if z (Request it)) (not-in-hand place o.on_way);
+        waiters = λ name. ap (λ z. only_if z (waiting_as it)) (not-waiting place name o.on_way)
+            ∙ sym (waits-nowhere script w asked [] b holds asks name);
       }
 
   call-now : CallHolds script caller (is_born_in w') (call_sight w' [] moved caller)
   call-now = call-stays script caller (is_born_in w) (is_born_in w') _ _ more sight-now call-placed
+
+  -- its old withdrawals are where they were, and it has no new one
+  old-there : SameOld (cancel_sight w hand b caller) (cancel_sight w' [] moved caller)
+  old-there =
+      old-still script p w w' n [] sends [] c hand [] b moved caller (read (λ (m : Node). m.pid) same-caller.pid)
+      (let same = read (λ (m : Node). m.caller.ticket) (ap (λ (k : Caller). k.ticket) same-caller.caller)
+      in omega (arith, same))
+      (λ name. ap (λ d. filter (is_held_cancel_of caller) (held_for d name)) same-directory-now)
+      (sym (ap (λ t. cond t (Request asked ∷ []) []) (no-held-cancel asked caller asks.is_call))) tt
+      (o.no_cancel caller, tt)
+
+  no-withdrawal : CancelIf caller Nothing (cancel_sight w' [] moved caller)
+  no-withdrawal =
+      uncancelled-goes caller (cancel_sight w hand b caller) (cancel_sight w' [] moved caller) f.call old-there
+      (read (λ (m : Node). m.caller) same-caller.caller) refl f.is
+      (subst (λ (a : Asked). may_be_withdrawn a.pid a.call ≡ false) f.asked_is o.never)
+      (ap (λ t. is_parked_place (if t then place else b.call caller)) (eq-eqb caller caller refl)
+      ∙ not-parked place o.on_way)
+      (holds.cancels caller asks.low asks.high)
 
   lease-same : (kind : Kind) (y : ℕ) → has_lease kind (calls-now y) ≡ has_lease kind (b.call y)
   lease-same kind y =
@@ -273,8 +341,8 @@ module _ (script : Script) (w : World) (b : Beside) (p : ℕ) (asked : Asked) (g
   pub sent-keeps : ((m : Name) → NameHolds script b.pids (is_born_in w') m (name_sight script w' [] moved m))
       → Holds script w' [] moved
   sent-keeps names =
-      call-move-keeps script w w' hand [] b b.deed calls-now p n [] sends caller g.low_node g.high_node holds c move
-      call-now names
+      call-move-keeps script w w' hand [] Nothing Nothing b moved p n [] sends [] caller g.low_node g.high_node holds c
+      move call-now no-withdrawal names
       (λ kind. kind-stays (is_born_in w) (is_born_in w') _ _ more
       (kind-left-alone script p w w' n [] sends [] c b.kernel b.kernel kind (λ number. refl)
       (ap (λ z. for_kind z kind) same-caller.leases)
@@ -285,16 +353,19 @@ module _ (script : Script) (w : World) (b : Beside) (p : ℕ) (asked : Asked) (g
 
   -- ---- names
 
-  steps-now : (m : Name) (q : ℕ) → plays calls-now m (c.left q 1) ≡ plays b.call m (c.left q 1)
-  steps-now m q =
-      steps-still script w w' hand [] b b.deed calls-now p n [] sends caller g.low_node g.high_node holds c move q
-      (left-alone q 1) m
+  steps-now : (used : Bool) (m : Name) (q : ℕ)
+      → plays used calls-now m (c.left q 1) ≡ plays used b.call m (c.left q 1)
+  steps-now used m q =
+      steps-still script w w' hand [] Nothing Nothing b moved p n [] sends [] caller g.low_node g.high_node holds c move
+      used q (left-alone q 1) m
 
-  ranges-now : (m : Name) (q : ℕ)
-      → flat_map (range_steps_of calls-now m) (c.left q 1) ≡ flat_map (range_steps_of b.call m) (c.left q 1)
-  ranges-now m q =
-      ranges-still script w w' hand [] b b.deed calls-now p n [] sends caller g.low_node g.high_node holds c move q
-      (left-alone q 1) m
+  ranges-now : (used : Bool) (m : Name) (q : ℕ)
+      → flat_map (range_steps_of used calls-now m) (c.left q 1)
+      ≡ flat_map (range_steps_of used b.call m) (c.left q 1)
+  ranges-now used m q =
+      ranges-still script w w' hand [] Nothing Nothing b moved p n [] sends [] caller g.low_node g.high_node holds c
+      move
+      used q (left-alone q 1) m
 
   -- A name that the frame isn't about keeps all that holds of it.
   pub name-not-sent : (m : Name) → concerns m frame ≡ false
@@ -305,16 +376,20 @@ module _ (script : Script) (w : World) (b : Beside) (p : ℕ) (asked : Asked) (g
       (record {
         directory = same-directory (directory_of w) (directory_of w') same-directory-now m;
         used_is = refl;
+        part_is = refl;
         body_is = refl;
         deed_is = refl;
         held_is = ap (λ deeds. get_named deeds m) o.deeds;
         begins_is = λ holds_it comes. ap (λ stage. begin stage holds_it comes) same-caller.stage;
         hand_is = refl;
-        steps_are = steps-now m;
-        ranges_are = ranges-now m;
+        steps_are = λ used. steps-now used m;
+        ranges_are = λ used. ranges-now used m;
       }) tt (away, tt)) (holds.names m)
 
-  module _ (m : Name) (k : IsOnlyNews calls-now m frame) where
+  module _ (m : Name) (k : IsOnlyNews (is_used_name b.kernel m) calls-now m frame) where
+    abbrev used : Bool
+    used = is_used_name b.kernel m
+
     -- the name with the news that it has then
     abbrev pub news_sight : NameSight
     news_sight = record (name_sight script w hand b m) { news = (name_sight script w' [] moved m).news }
@@ -341,6 +416,7 @@ module _ (script : Script) (w : World) (b : Beside) (p : ℕ) (asked : Asked) (g
           maker = sym (ap (λ d. maker d m) same-directory-now);
           stays = λ y. sym (ap (λ d. stays d y) same-directory-now);
           used = refl;
+          part = refl;
           body = refl;
           deed = refl;
           held = λ y. sym (read-same script p w w' n [] sends [] c (λ (z : Node). get_named z.deeds m)
@@ -350,16 +426,18 @@ module _ (script : Script) (w : World) (b : Beside) (p : ℕ) (asked : Asked) (g
           kept = λ pid. sym (ap (λ d. filter (is_parcel_with m) (held_for d (Proc pid))) same-directory-now);
           hand = refl;
           begins = begins-same;
-          steps = λ y. sym (only-stayed script p w w' n [] sends [] c (λ t q fs. plays calls-now m fs)
+          steps = λ y. sym (only-stayed script p w w' n [] sends [] c (λ t q fs. plays used calls-now m fs)
               (λ t q. flat_map-is-list-map _) (k.no_steps, tt) y 1
-              ∙ steps-now m y
-              ∙ stayed script p w w' n [] sends [] c (λ t q fs. plays b.call m fs) (λ t q. flat_map-is-list-map _) tt
+              ∙ steps-now used m y
+              ∙ stayed script p w w' n [] sends [] c (λ t q fs. plays used b.call m fs) (λ t q. flat_map-is-list-map _)
+              tt
               y 1);
           ranges = λ y. sym (only-stayed script p w w' n [] sends [] c
-              (λ t q fs. flat_map (range_steps_of calls-now m) fs) (λ t q. flat_map-is-list-map _) (k.no_ranges, tt)
+              (λ t q fs. flat_map (range_steps_of used calls-now m) fs) (λ t q. flat_map-is-list-map _)
+              (k.no_ranges, tt)
               y 1
-              ∙ ranges-now m y
-              ∙ stayed script p w w' n [] sends [] c (λ t q fs. flat_map (range_steps_of b.call m) fs)
+              ∙ ranges-now used m y
+              ∙ stayed script p w w' n [] sends [] c (λ t q fs. flat_map (range_steps_of used b.call m) fs)
               (λ t q. flat_map-is-list-map _) tt y 1);
           placed = λ y. sym (made-same script p w w' n [] sends [] c (λ t q fs. placed_in m fs)
               (λ t q. flat_map-is-list-map _) tt (k.no_place, tt) 1 y);
@@ -389,6 +467,8 @@ module _ (script : Script) (w : World) (b : Beside) (p : ℕ) (asked : Asked) (g
     name-with-news found =
         name-stays script b.pids (is_born_in w) (is_born_in w') m _ _ more name-seen-with-news
         (record {
+          parts = old.parts;
+          callers = old.callers;
           made = old.made;
           place_fits = old.place_fits;
           tables = old.tables;

@@ -18,12 +18,13 @@ use Rattle.world_laws.specs.Places.{CallPlace, Beside}
 use Rattle.world_laws.specs.Sights.{directory_of, frames_to, is_born_in, node_of}
 use Rattle.world_laws.specs.Names.{IsLeased, IsSentThere, RangeStep, range_steps_if, range_steps_of}
 use Rattle.world_laws.specs.Ranges.{KindHolds, KindSight, first_if, is_given, is_in_lease, kind_sight, lease_in}
-use Rattle.world_laws.specs.Invariant.{Holds}
+use Rattle.world_laws.specs.Cancels.{Owing}
+use Rattle.world_laws.specs.Invariant.{HoldsOwing}
 use Rattle.route_laws.proofs.sent.Needed.{has_no_lease}
 
 -- ---- the numbers on their way
 
-module _ (call : ℕ → CallPlace) (name : Name) where
+module _ (used : Bool) (call : ℕ → CallPlace) (name : Name) where
   abbrev number : ℕ
   number = number_of name
 
@@ -47,14 +48,16 @@ module _ (call : ℕ → CallPlace) (name : Name) where
   past-sent false rs h = h
 
   -- where no lease with the name's number is on its way, none of the numbers on their way is that
-  pub none-coming : (fs : List Frame) → has_no_lease (flat_map (range_steps_of call name) fs) ≡ true
+  pub none-coming : (fs : List Frame) → has_no_lease (flat_map (range_steps_of used call name) fs) ≡ true
       → list_any (is_in_lease number) (flat_map (lease_in kind) fs) ≡ false
   none-coming [] h = refl
   none-coming (frames.Lease other first ∷ fs) h =
-      not-in-lease first (flat_map (lease_in kind) fs) (flat_map (range_steps_of call name) fs)
+      not-in-lease first (flat_map (lease_in kind) fs) (flat_map (range_steps_of used call name) fs)
       (is_same_kind kind other) (list_any (nat_eq number) (lease_of first)) h refl (none-coming fs)
   none-coming (frames.Forward asked ∷ fs) h =
-      none-coming fs (past-sent _ (flat_map (range_steps_of call name) fs) h)
+      none-coming fs (past-sent _ (flat_map (range_steps_of used call name) fs) h)
+  none-coming (frames.Cancel asked ∷ fs) h =
+      none-coming fs (past-sent _ (flat_map (range_steps_of used call name) fs) h)
   none-coming (frames.Ask ticket pid call ∷ fs) h = none-coming fs h
   none-coming (frames.Request ticket pid call ∷ fs) h = none-coming fs h
   none-coming (frames.Bounce asked ∷ fs) h = none-coming fs h
@@ -74,8 +77,8 @@ module _ (call : ℕ → CallPlace) (name : Name) where
 
 -- ---- the name
 
-module _ (script : Script) (w : World) (hand : List Held) (b : Beside) (holds : Holds script w hand b) (p : ℕ)
-    (name : Name) (made : maker (directory_of w) name ≡ Some p) where
+module _ (script : Script) (w : World) (hand : List Held) {owes : Owing} (b : Beside)
+    (holds : HoldsOwing script w hand owes b) (p : ℕ) (name : Name) (made : maker (directory_of w) name ≡ Some p) where
   abbrev x : KindSight
   x = kind_sight w b.kernel (kind_of name)
 
@@ -93,9 +96,9 @@ module _ (script : Script) (w : World) (hand : List Held) (b : Beside) (holds : 
 
   -- and one that it hasn't, and that isn't on its way there, names something
   pub given-used : leases_hold (node_of w p).leases name ≡ false
-      → has_no_lease (flat_map (range_steps_of b.call name) (frames_to w p 1)) ≡ true
+      → has_no_lease (flat_map (range_steps_of (is_used_name b.kernel name) b.call name) (frames_to w p 1)) ≡ true
       → is_used_name b.kernel name ≡ true
   given-used e none =
       used-is
       ∙ ap (λ t. not (t || list_any (is_in_lease (number_of name)) (x.coming p))) e
-      ∙ ap not (none-coming b.call name (frames_to w p 1) none)
+      ∙ ap not (none-coming (is_used_name b.kernel name) b.call name (frames_to w p 1) none)
