@@ -1,12 +1,11 @@
 -- In every world of a sound script each deed on its way is read back.
-use Rattle.std.proofs.Common.{◌≡◌, ◌≢◌, ℕ, zero, suc, ◌+◌, ◌-◌, ◌≤◌, ◌<◌, true, ◌||◌, nat_eq, List, [], ◌∷◌, length, map, refl, ap, sym, subst, ◌∙◌, inl, inr, arith}
+use Rattle.std.proofs.Common.{◌≡◌, ◌≢◌, ℕ, ◌-◌, ◌≤◌, true, nat_eq, List, [], ◌∷◌, length, map, ap, sym, subst, ◌∙◌, inl, inr, arith}
 use Rattle.std.specs.Prelude.{Contains}
 use Rattle.std.specs.List.{list_any}
-use Rattle.std.proofs.lemmas.Bool.{cases_eq, eq-eqb, eqb-true, false≢true, or_cases, or_right}
+use Rattle.std.proofs.lemmas.Bool.{eqb-true, false≢true, or_cases}
 use Rattle.std.proofs.lemmas.List.Folds.{list_any-append}
 use Rattle.pico_base.specs.declared.numbers.Name.TheVariants.{Proc}
 use Rattle.pico_base.specs.declared.script.Script.{Script}
-use Rattle.kernel_model.specs.Kernel.{living_at}
 use Rattle.kernel_model.specs.Kernel as kernel
 use Rattle.kernel_model.specs.Row.{EndedChild, Row, lists, ended_child}
 use Rattle.kernel_model.specs.Script.{IsSoundScript}
@@ -19,48 +18,25 @@ use Rattle.node_model.specs.declared.held.Held.{Held}
 use Rattle.node_model.specs.Bodies.{Living as LivingBody, body_in}
 use Rattle.entry_laws.specs.Entering.{HasRow}
 use Rattle.entry_laws.proofs.Bodies.{body-living}
+use Rattle.entry_laws.proofs.History.{history-reachable}
 use Rattle.deed_laws.proofs.Families.{family-has-bytes}
 use Rattle.deed_laws.proofs.Within.{deeds-are-read}
 use Rattle.world_model.specs.World.{World, node_count, numbers}
 use Rattle.world_laws.specs.Deeds.{DeedsAreRead}
 use Rattle.world_laws.specs.Families.{FamilyHolds, ListsChild, checkpoints_to}
-use Rattle.world_laws.specs.Invariant.{Holds, process_deed}
+use Rattle.world_laws.specs.Invariant.{process_deed, HoldsOwing}
 use Rattle.world_laws.specs.Names.{forker}
 use Rattle.world_laws.specs.Places.{Beside}
 use Rattle.world_laws.specs.Sights.{stage_of}
+use Rattle.world_laws.specs.Wholes.{HasWhole}
+use Rattle.world_laws.specs.Cancels.{Owing}
 use Rattle.bound_laws.proofs.Ranges.{few-blocks}
 use Rattle.bound_laws.proofs.Scripts.{first-has-no-forker}
+use Rattle.bound_laws.proofs.Numbers.{in-numbers, is-among, length-of-numbers}
 use Rattle.bound_laws.proofs.Smalls.{history-leaves-small}
+use Rattle.bound_laws.proofs.WaiterBytes.{waiters-have-bytes}
 
--- ---- members of lists
-
--- what one makes of a number is among what is made of all
-pub is-among : (f : ℕ → ℕ) (d : ℕ) (ns : List ℕ) → list_any (nat_eq d) ns ≡ true
-    → list_any (nat_eq (f d)) (map f ns) ≡ true
-is-among f d [] h = absurd (false≢true h)
-is-among f d (n ∷ ns) h =
-    elim (or_cases (nat_eq d n) (list_any (nat_eq d) ns) h) [
-      | inl here ↦
-          ap (λ t. t || list_any (nat_eq (f d)) (map f ns)) (eq-eqb (f d) (f n) (ap f (eqb-true d n here)))
-      | inr later ↦
-          or_right (nat_eq (f d) (f n)) (list_any (nat_eq (f d)) (map f ns)) (is-among f d ns later)
-    ]
-
--- the numbers from one on have each of these
-pub in-numbers : (n k d : ℕ) → k ≤ d → d < k + n → list_any (nat_eq d) (numbers k n) ≡ true
-in-numbers zero k d low high = absurd (omega (arith, low, high))
-in-numbers (suc n) k d low high =
-    elim (cases_eq d k) [
-      | inl same ↦ ap (λ t. t || list_any (nat_eq d) (numbers (k + 1) n)) (eq-eqb d k same)
-      | inr other ↦
-          or_right (nat_eq d k) (list_any (nat_eq d) (numbers (k + 1) n))
-          (in-numbers n (k + 1) d (omega (arith, low, other)) (omega (arith, high)))
-    ]
-
--- and they are so many
-pub length-of-numbers : (f : ℕ → ℕ) (n k : ℕ) → length (map f (numbers k n)) ≡ n
-length-of-numbers f zero k = refl
-length-of-numbers f (suc n) k = ap suc (length-of-numbers f n (k + 1))
+-- ---- children
 
 ended-among : (es : List EndedChild) (q : ℕ) → list_any (nat_eq q) (map (λ e. e.pid) es) ≡ true
     → (ending : _) × Contains es (ended_child q ending)
@@ -77,10 +53,10 @@ ended-among (x ∷ xs) q h =
 
 -- ---- families
 
-module _ (script : Script) (sound : IsSoundScript script) (w : World) (hand : List Held) (b : Beside)
-    (holds : Holds script w hand b) where
+module _ (script : Script) (sound : IsSoundScript script) (w : World) (hand : List Held) (owes : Owing) (b : Beside)
+    (holds : HoldsOwing script w hand owes b) where
   reachable : IsReachableKernel b.kernel
-  reachable = (w.journal, holds.history.legal)
+  reachable = history-reachable script b.lines b.kernel b.places holds.history
 
   -- the numbers of all processes but the first
   abbrev others : List ℕ
@@ -142,8 +118,8 @@ module _ (script : Script) (sound : IsSoundScript script) (w : World) (hand : Li
       (subst (λ q. HasRow b.kernel q row) (sym node.1) r)
 
   -- Deeds on their way are read back.
-  pub deeds-are-read-in : DeedsAreRead b.kernel
-  deeds-are-read-in name used =
-      deeds-are-read b.kernel name reachable
-      (history-leaves-small script sound w.journal b.kernel b.places holds.history.legal holds.history.fits name)
-      rows-have-bytes
+  pub deeds-are-read-in : HasWhole w b → DeedsAreRead b.kernel b.body
+  deeds-are-read-in whole name used =
+      deeds-are-read b.kernel name (b.body name) reachable (holds.names name).parts
+      (history-leaves-small script sound b.lines b.kernel b.places holds.history.legal holds.history.fits name)
+      rows-have-bytes (waiters-have-bytes script sound w hand owes b holds whole name used)

@@ -14,6 +14,7 @@ use Rattle.kernel_model.specs.Fitting.{child_vars}
 use Rattle.kernel_model.specs.Queue.{empty_queue}
 use Rattle.kernel_model.specs.Row.{Row}
 use Rattle.kernel_model.specs.SemaphoreSet.{SemaphoreSet, new_set}
+use Rattle.waiting_model.specs.Waiters.{unawaited}
 use Rattle.node_model.specs.Bodies.{AQueue, ASet, Body}
 use Rattle.node_model.specs.Caller.{caller_place}
 use Rattle.node_model.specs.Directory.{has_more, place_name, upcoming, with_range}
@@ -25,9 +26,10 @@ use Rattle.world_model.specs.Node.{Node, asked_here, is_leader, own_row}
 use Rattle.world_model.specs.Numbers.{Taken, fork_with, knows_any, make, make_object, make_set, make_taken, make_with, take_first, take_from, take_from_next, take_number, tell_place, with_next_range}
 use Rattle.world_model.specs.Step.{Step, carry_out, send, with_deeds, with_directory, with_node}
 use Rattle.world_model.specs.World.{IsNode}
-use Rattle.bound_laws.specs.Bounded.{NodeIsBounded, StepIsBounded}
-use Rattle.bound_laws.proofs.Parts.{place-name-names, put-rises, range-names}
+use Rattle.bound_laws.specs.Bounded.{NodeIsBounded, StepIsBounded, WaitersAreOfNodes}
+use Rattle.bound_laws.proofs.Parts.{place-name-names, range-names}
 use Rattle.bound_laws.proofs.StepParts.{carry-out-bounded, first-is-node, send-bounded, send-first-bounded, with-deeds-bounded, with-directory-bounded, with-node-bounded, with-tables-bounded}
+use Rattle.bound_laws.proofs.Waiters.{put-deed-bounded}
 
 -- a call that forks, forks a block of the script
 abbrev pub ForksNodes : Script → Call → Type 0
@@ -99,22 +101,23 @@ module _ (script : Script) where
       (child_vars (caller_place script n.number n.caller)))
       (carry-out-bounded script held (asked_here n call) (replies.Num child)
       (with-deeds-bounded script s (put_named n.deeds (Proc n.pid) (parent_body row child)) k
-      (put-rises n.deeds (Proc n.pid) (parent_body row child) k.node.deeds)) k.node.number) own tt) own
+      (put-deed-bounded script n.deeds (Proc n.pid) (parent_body row child) k.node.deeds tt)) k.node.number) own tt) own
 
   make-object-bounded : (s : Step) (call : Call) (name : Name) (body : Body) (number : ℕ) → StepIsBounded script s
-      → StepIsBounded script (make_object script s call name body number)
-  make-object-bounded s call name body number k =
+      → WaitersAreOfNodes script body → StepIsBounded script (make_object script s call name body number)
+  make-object-bounded s call name body number k all =
       let n : Node = s.node
       in let held : Step = with_deeds s (put_named n.deeds name body)
       in tell-place-bounded (carry_out script held (asked_here n call) (replies.Num number)) name n.number
       (carry-out-bounded script held (asked_here n call) (replies.Num number)
-      (with-deeds-bounded script s (put_named n.deeds name body) k (put-rises n.deeds name body k.node.deeds))
+      (with-deeds-bounded script s (put_named n.deeds name body) k
+      (put-deed-bounded script n.deeds name body k.node.deeds all))
       k.node.number) k.node.number
 
   make-set-bounded : (s : Step) (call : Call) (number : ℕ) (r : Result SemaphoreSet Errno) → StepIsBounded script s
       → Of (StepIsBounded script) (make_set script s call number r)
   make-set-bounded s call number (Err e) k = tt
-  make-set-bounded s call number (Ok set) k = make-object-bounded s call (Sem number) (ASet set) number k
+  make-set-bounded s call number (Ok set) k = make-object-bounded s call (Sem number) (ASet (unawaited set)) number k tt
 
   make-with-bounded : (s : Step) (call : Call) (number : ℕ) → StepIsBounded script s → ForksNodes script call
       → Of (StepIsBounded script) (make_with script s call number)
@@ -122,7 +125,7 @@ module _ (script : Script) where
       of-map (StepIsBounded script) (own_row s.node) (fork_with script s (calls.Fork block) block number)
       (λ row _. fork-with-bounded s (calls.Fork block) block number row k own)
   make-with-bounded s (calls.MsgGet key create excl) number k own =
-      make-object-bounded s (calls.MsgGet key create excl) (Msg number) (AQueue empty_queue) number k
+      make-object-bounded s (calls.MsgGet key create excl) (Msg number) (AQueue (unawaited empty_queue)) number k tt
   make-with-bounded s (calls.SemGet key count create excl) number k own =
       make-set-bounded s (calls.SemGet key count create excl) number (new_set count) k
   make-with-bounded s call number k own = tt

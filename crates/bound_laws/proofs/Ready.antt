@@ -24,27 +24,28 @@ use Rattle.node_model.specs.Directory.{At, has_more, held_for, max_ranges, place
 use Rattle.node_model.specs.Kinds.{for_kind}
 use Rattle.world_model.specs.Ends.{IsHeld, Releases, end_process}
 use Rattle.world_model.specs.Node.{Node, unborn_node}
-use Rattle.world_model.specs.Routes.{route_call}
+use Rattle.world_model.specs.Routes.{route_held}
 use Rattle.world_model.specs.Step.{Step}
 use Rattle.world_model.specs.World.{IsNode, World, node_at, world_after, node_count}
 use Rattle.world_laws.specs.Deeds.{DeedsAreRead}
-use Rattle.world_laws.specs.Invariant.{Holds, IsShaped}
+use Rattle.world_laws.specs.Invariant.{Holds, IsShaped, HoldsOwing}
 use Rattle.world_laws.specs.Places.{Beside}
 use Rattle.world_laws.specs.Runnable.{IsRunnable}
 use Rattle.world_laws.specs.Sights.{directory_of, frames_to, node_of}
 use Rattle.world_laws.proofs.Heads.{head-there}
 use Rattle.world_laws.proofs.Steps.{Heads, world_without}
-use Rattle.route_laws.proofs.hand.Asks.{NeverWaits}
+use Rattle.world_laws.specs.Wholes.{HasWhole}
+use Rattle.world_laws.specs.Cancels.{Nothing, Owing}
+use Rattle.route_laws.proofs.hand.Asks.{NeverWithdraws}
 use Rattle.rule_laws.proofs.ends.Directories.{KnowsNodes}
 use Rattle.rule_laws.proofs.ends.Given.{AreRising}
 use Rattle.rule_laws.proofs.ends.RecallAlls.{deeds_at}
 use Rattle.route_laws.specs.Watching.{AreWatchesOf}
 use Rattle.bound_laws.specs.Bounded.{AllRise, FrameIsBounded, IsBounded, IsGood, ItemIsOfNode, ItemsAreOfNodes, NodeIsBounded, PlaceNamesNodes, StepIsBounded}
-use Rattle.bound_laws.proofs.Calls.{never-waits}
 use Rattle.bound_laws.proofs.Deeds.{deeds-are-read-in}
 use Rattle.bound_laws.proofs.Parts.{held-are-of-nodes, none-rises}
 use Rattle.bound_laws.proofs.Ranges.{few-ranges, more-ranges, some-blocks}
-use Rattle.bound_laws.proofs.Scripts.{sound-is-runnable}
+use Rattle.bound_laws.proofs.Scripts.{never-withdraws, sound-is-runnable}
 use Rattle.bound_laws.proofs.Released.{ended-is-bounded, routed-is-bounded}
 use Rattle.bound_laws.proofs.Worlds.{middle-is-bounded, without-is-bounded, without-is-shaped}
 use Rattle.kernel_laws.proofs.Lists.{all-both}
@@ -53,9 +54,9 @@ use Rattle.kernel_laws.proofs.Lists.{all-both}
 pub record Ready (script : Script) (w : World) (hand : List Held) (b : Beside) : Type 0 where
   -- the script's
   pub runnable : IsRunnable script
-  pub never_waits : NeverWaits script
+  pub never_withdraws : NeverWithdraws script
   -- deeds on their way are read back
-  pub reads : DeedsAreRead b.kernel
+  pub reads : DeedsAreRead b.kernel b.body
   -- each kind has numbers left, and all have four bytes
   pub enough : (kind : Kind) → has_more (directory_of w) kind ≡ true
   pub few : (kind : Kind) → length (for_kind (directory_of w).ranges kind) ≤ max_ranges
@@ -86,8 +87,8 @@ all-contained P xs x all there = All-contains P xs x (All-from_recursion P xs al
 rising-of : (deeds : Deeds) → AllRise deeds → AreRising deeds
 rising-of deeds r = record { processes = r.processes; queues = r.queues; sets = r.sets }
 
-module _ (script : Script) (sound : IsSoundScript script) (w : World) (hand : List Held) (b : Beside)
-    (holds : Holds script w hand b) (k : IsBounded script w hand) where
+module _ (script : Script) (sound : IsSoundScript script) (w : World) (hand : List Held) (owes : Owing) (b : Beside)
+    (holds : HoldsOwing script w hand owes b) (whole : HasWhole w b) (k : IsBounded script w hand) where
   first : NodeIsBounded script (node_of w 1)
   first = k.nodes 1 (omega arith) (some-blocks script sound)
 
@@ -105,7 +106,7 @@ module _ (script : Script) (sound : IsSoundScript script) (w : World) (hand : Li
       in let same : node_of w (suc q) ≡ n =
       ap (λ t. unwrap_or (if t then node_at w (suc q) else None) (unborn_node (suc q))) (lt-ltb 0 (suc q) (omega arith))
       ∙ ap (λ o. unwrap_or o (unborn_node (suc q))) is
-      in subst (λ (m : Node). AreRising m.deeds) same (rising-of (node_of w (suc q)).deeds here.deeds)
+      in subst (λ (m : Node). AreRising m.deeds) same (rising-of (node_of w (suc q)).deeds here.deeds.rise)
 
   all-rise : (q : ℕ) → AreRising (deeds_at w q)
   all-rise zero = unborn-rises 0
@@ -118,15 +119,15 @@ module _ (script : Script) (sound : IsSoundScript script) (w : World) (hand : Li
   place-is-node : (name : Name) (node : ℕ) → place_of (directory_of w) name ≡ Some (At node) → IsNode script node
   place-is-node name node is = subst (PlaceNamesNodes script) is (first.directory.places name)
 
-  -- It has all that the rules ask.
-  pub bounded-is-ready : Ready script w hand b
-  bounded-is-ready =
+  -- It has all that the rules ask, also while a strike is owed.
+  pub owing-is-ready : Ready script w hand b
+  owing-is-ready =
       record {
         runnable = sound-is-runnable script sound;
-        never_waits = never-waits script sound;
-        reads = deeds-are-read-in script sound w hand b holds;
-        enough = more-ranges script sound w hand b holds;
-        few = few-ranges script sound w hand b holds;
+        never_withdraws = never-withdraws script sound;
+        reads = deeds-are-read-in script sound w hand owes b holds whole;
+        enough = more-ranges script sound w hand owes b holds whole;
+        few = few-ranges script sound w hand owes b holds whole;
         rises = all-rise;
         queue_keys = first.queue_keys;
         set_keys = first.set_keys;
@@ -143,20 +144,26 @@ module _ (script : Script) (sound : IsSoundScript script) (w : World) (hand : Li
         in_hand = λ asked there. all-contained (ItemIsOfNode script) hand (Request asked) k.in_hand there;
       }
 
+-- where none is owed
+pub bounded-is-ready : (script : Script) → IsSoundScript script → (w : World) (hand : List Held) (b : Beside)
+    → Holds script w hand b → IsBounded script w hand → Ready script w hand b
+bounded-is-ready script sound w hand b holds k = owing-is-ready script sound w hand Nothing b holds holds.whole k
+
 -- ---- in the middle of an event of the leader
 
 module _ (script : Script) (v : World) where
   -- The world in the middle has all that the rules ask,
-  pub good-is-ready : IsSoundScript script → (s : Step) (hand : List Held) (b : Beside) → IsGood script v s hand
-      → Holds script (world_after v 1 s) hand b → Ready script (world_after v 1 s) hand b
-  good-is-ready sound s hand b g holds =
-      bounded-is-ready script sound (world_after v 1 s) hand b holds
+  pub good-is-ready : IsSoundScript script → (s : Step) (hand : List Held) (owes : Owing) (b : Beside)
+      → IsGood script v s hand → HoldsOwing script (world_after v 1 s) hand owes b → HasWhole (world_after v 1 s) b
+      → Ready script (world_after v 1 s) hand b
+  good-is-ready sound s hand owes b g holds whole =
+      owing-is-ready script sound (world_after v 1 s) hand owes b holds whole
       (middle-is-bounded script v [] hand 1 s g.shape g.bounded
       (record { low = omega arith; high = some-blocks script sound }) g.step_is g.items)
 
-  -- and once its first call is routed,
+  -- and once its first call, or the withdrawal of one, is routed,
   pub good-routed : (s next : Step) (asked : Asked) (rest : List Held) → IsGood script v s (Request asked ∷ rest)
-      → route_call script s asked ≡ Some next → IsGood script v next rest
+      → route_held script s asked ≡ Some next → IsGood script v next rest
   good-routed s next asked rest g is =
       record {
         shape = g.shape;
@@ -167,7 +174,7 @@ module _ (script : Script) (v : World) where
 
   -- or its first parcel is held,
   pub good-held : (s next : Step) (parcel : Parcel) (rest : List Held) → IsGood script v s (Ending parcel ∷ rest)
-      → end_process s parcel ≡ Some (IsHeld next) → IsGood script v next rest
+      → end_process script s parcel ≡ Some (IsHeld next) → IsGood script v next rest
   good-held s next parcel rest g is =
       record {
         shape = g.shape;
@@ -178,7 +185,7 @@ module _ (script : Script) (v : World) where
 
   -- or ends and releases what was held for it, it is good again.
   pub good-released : (s next : Step) (parcel : Parcel) (items rest : List Held)
-      → IsGood script v s (Ending parcel ∷ rest) → end_process s parcel ≡ Some (Releases next items)
+      → IsGood script v s (Ending parcel ∷ rest) → end_process script s parcel ≡ Some (Releases next items)
       → IsGood script v next (items ++ rest)
   good-released s next parcel items rest g is =
       let after = ended-is-bounded script s parcel (Releases next items) g.step_is is
@@ -201,7 +208,7 @@ taken-is-good script w q frame rest s hand shape k h step_is items =
       items = items;
     }
 
--- Who made the call of a Forward or a Bounce at the head of a stream is a node of the script.
+-- Who made the call of a Forward, a Cancel or a Bounce at the head of a stream is a node of the script.
 module _ (script : Script) (w : World) (hand : List Held) (b : Beside) (ready : Ready script w hand b) where
   pub forward-is-of-node : (p q : ℕ) (asked : Asked) (rest : List Frame)
       → Heads script w p q (frames.Forward asked) rest → IsNode script asked.caller
@@ -210,7 +217,15 @@ module _ (script : Script) (w : World) (hand : List Held) (b : Beside) (ready : 
       ready.frames p q (frames.Forward asked) (head-there script w p q (frames.Forward asked) rest h)
       in f.says
 
-  -- so is that of a Bounce
+  -- so is that of a Cancel
+  pub cancel-is-of-node : (p q : ℕ) (asked : Asked) (rest : List Frame)
+      → Heads script w p q (frames.Cancel asked) rest → IsNode script asked.caller
+  cancel-is-of-node p q asked rest h =
+      let f : FrameIsBounded script p q (frames.Cancel asked) =
+      ready.frames p q (frames.Cancel asked) (head-there script w p q (frames.Cancel asked) rest h)
+      in f.says
+
+  -- and that of a Bounce
   pub bounce-is-of-node : (p q : ℕ) (asked : Asked) (rest : List Frame)
       → Heads script w p q (frames.Bounce asked) rest → IsNode script asked.caller
   bounce-is-of-node p q asked rest h =

@@ -22,6 +22,8 @@ use Rattle.number_maps.proofs.Rising.{rising-filter, rising-put}
 use Rattle.kernel_laws.proofs.Plain.{Of, by_test, of-map, of-some}
 use Rattle.kernel_model.specs.Queue.{empty_queue}
 use Rattle.kernel_model.specs.SemaphoreSet.{SemaphoreSet, new_set}
+use Rattle.waiting_model.specs.Waiters.{unawaited}
+use Rattle.waiting_model.specs.Calls.{withdrawn_from}
 use Rattle.node_model.specs.declared.held.Held.{Held}
 use Rattle.node_model.specs.declared.held.Held.TheVariants.{Request}
 use Rattle.node_model.specs.declared.route.Route.{Route}
@@ -32,14 +34,15 @@ use Rattle.node_model.specs.Kinds.{get_named, put_named}
 use Rattle.world_model.specs.Keys.{bind, create_set, find_set, get_by_key, get_queue, get_set, make_bound, make_queue, make_set, without_key}
 use Rattle.world_model.specs.Node.{Leader, Node}
 use Rattle.world_model.specs.Numbers.{Taken, take_number}
-use Rattle.world_model.specs.Routes.{forward, hold_item, keys_after, recall_and_hold, recall_from, remove_by, remove_here, route_by, route_call, route_home, unbind_name, was_removed}
-use Rattle.world_model.specs.Serving.{serve_asked}
+use Rattle.world_model.specs.Routes.{forward, hold_item, keys_after, recall_and_hold, recall_from, remove_by, remove_here, route_by, route_call, route_home, unbind_name, was_removed, cancel, cancel_by, route_cancel, route_held, route_held_by}
+use Rattle.world_model.specs.Serving.{serve_asked, withdraw_here}
 use Rattle.world_model.specs.Step.{Step, with_directory, with_leader, with_node}
 use Rattle.world_model.specs.World.{IsNode}
-use Rattle.bound_laws.specs.Bounded.{ItemIsOfNode, LeadsToNode, NamesNodes, NodeIsBounded, StepIsBounded}
+use Rattle.bound_laws.specs.Bounded.{ItemIsOfNode, LeadsToNode, NamesNodes, NodeIsBounded, StepIsBounded, WaitersAreOfNodes}
 use Rattle.bound_laws.proofs.NewNames.{take-number-bounded}
-use Rattle.bound_laws.proofs.Parts.{RouteNamesNode, hold-names, place-name-names, put-rises, recall-names, route-is-node}
-use Rattle.bound_laws.proofs.StepParts.{carry-out-bounded, send-bounded, serve-asked-bounded, serve-nobody-bounded, with-directory-bounded, with-node-bounded}
+use Rattle.bound_laws.proofs.Parts.{RouteNamesNode, hold-names, place-name-names, recall-names, route-is-node}
+use Rattle.bound_laws.proofs.StepParts.{carry-out-bounded, send-bounded, serve-asked-bounded, serve-nobody-bounded, with-directory-bounded, with-node-bounded, send-first-bounded, withdraw-here-bounded}
+use Rattle.bound_laws.proofs.Waiters.{put-deed-bounded}
 
 module _ (script : Script) where
   -- the leader's tables
@@ -70,9 +73,9 @@ module _ (script : Script) where
   -- ---- the keys
 
   make-bound-bounded : (s : Step) (asked : Asked) (name : Name) (body : Body) (id : ℕ) (l : Leader)
-      → StepIsBounded script s → LeaderIsBounded l → IsNode script asked.caller
+      → StepIsBounded script s → LeaderIsBounded l → IsNode script asked.caller → WaitersAreOfNodes script body
       → StepIsBounded script (make_bound script s asked name body id l)
-  make-bound-bounded s asked name body id l k own caller =
+  make-bound-bounded s asked name body id l k own caller all =
       let n : Node = s.node
       in let made : Node = record n { deeds = put_named n.deeds name body; leader = l }
       in let d : Directory = place_name l.directory name n.number
@@ -83,7 +86,7 @@ module _ (script : Script) where
         parent_node = k.node.parent_node;
         fork = k.node.fork;
         size = k.node.size;
-        deeds = put-rises n.deeds name body k.node.deeds;
+        deeds = put-deed-bounded script n.deeds name body k.node.deeds all;
         watches = k.node.watches;
         cache = k.node.cache;
         directory = place-name-names script l.directory name n.number own.directory k.node.number;
@@ -95,27 +98,27 @@ module _ (script : Script) where
       → NodeIsBounded script t.node → IsNode script asked.caller
       → StepIsBounded script (make_queue script s asked key t)
   make-queue-bounded s asked key t k taken caller =
-      make-bound-bounded (with_node s t.node) asked (Msg t.number) (AQueue empty_queue) t.number
+      make-bound-bounded (with_node s t.node) asked (Msg t.number) (AQueue (unawaited empty_queue)) t.number
       (record t.node.leader { queue_keys = bind t.node.leader.queue_keys key t.number 0 })
       (with-node-bounded script s t.node k taken)
       (record {
         directory = taken.directory;
         queue_keys = rising-put t.node.leader.queue_keys key _ taken.queue_keys;
         set_keys = taken.set_keys;
-      }) caller
+      }) caller tt
 
   make-set-bounded : (s : Step) (asked : Asked) (key : ℕ) (set : SemaphoreSet) (t : Taken) → StepIsBounded script s
       → NodeIsBounded script t.node → IsNode script asked.caller
       → StepIsBounded script (make_set script s asked key set t)
   make-set-bounded s asked key set t k taken caller =
-      make-bound-bounded (with_node s t.node) asked (Sem t.number) (ASet set) t.number
+      make-bound-bounded (with_node s t.node) asked (Sem t.number) (ASet (unawaited set)) t.number
       (record t.node.leader { set_keys = bind t.node.leader.set_keys key t.number (length set.semaphores) })
       (with-node-bounded script s t.node k taken)
       (record {
         directory = taken.directory;
         queue_keys = taken.queue_keys;
         set_keys = rising-put t.node.leader.set_keys key _ taken.set_keys;
-      }) caller
+      }) caller tt
 
   get-queue-bounded : (s : Step) (asked : Asked) (key : ℕ) (answer : KeyAnswer) → StepIsBounded script s
       → IsNode script asked.caller → Of (StepIsBounded script) (get_queue script s asked key answer)
@@ -263,3 +266,41 @@ module _ (script : Script) where
   pub route-call-bounded : (s : Step) (asked : Asked) → StepIsBounded script s → IsNode script asked.caller
       → Of (StepIsBounded script) (route_call script s asked)
   route-call-bounded s asked k caller = route-home-bounded s asked (home_of asked.pid asked.call) k caller
+
+  -- ---- withdrawals
+
+  cancel-bounded : (s : Step) (to : ℕ) (asked : Asked) → StepIsBounded script s → IsNode script to
+      → IsNode script asked.caller → StepIsBounded script (cancel s to asked)
+  cancel-bounded s to asked k receiver caller = send-bounded script s to (frames.Cancel asked) k receiver caller
+
+  -- to the leader
+  pub cancel-first-bounded : (s : Step) (asked : Asked) → StepIsBounded script s → IsNode script asked.caller
+      → StepIsBounded script (cancel s 1 asked)
+  cancel-first-bounded s asked k caller = send-first-bounded script s (frames.Cancel asked) k caller
+
+  cancel-by-bounded : (s : Step) (name : Name) (asked : Asked) (r : Route) → StepIsBounded script s
+      → RouteNamesNode script r → IsNode script asked.caller → StepIsBounded script (cancel_by script s name asked r)
+  cancel-by-bounded s name asked (routes.At node) k at caller =
+      by_test (StepIsBounded script) (nat_eq node s.node.number) (withdraw_here script s name asked)
+      (cancel s node asked) (λ _. withdraw-here-bounded script s name asked k caller)
+      (λ _. cancel-bounded s node asked k at caller)
+  cancel-by-bounded s name asked routes.Coming k at caller = hold-item-bounded s name (Request asked) k caller
+  cancel-by-bounded s name asked (routes.Range node) k at caller = cancel-bounded s node asked k at caller
+  cancel-by-bounded s name asked routes.Nobody k at caller = k
+
+  -- A withdrawal of a call of a node is routed.
+  pub route-cancel-bounded : (s : Step) (name : Name) (asked : Asked) → StepIsBounded script s
+      → IsNode script asked.caller → StepIsBounded script (route_cancel script s name asked)
+  route-cancel-bounded s name asked k caller =
+      cancel-by-bounded s name asked (route s.node.leader.directory name) k
+      (route-is-node script s.node.leader.directory name k.node.directory) caller
+
+  route-held-by-bounded : (s : Step) (asked : Asked) (o : Option Name) → StepIsBounded script s
+      → IsNode script asked.caller → Of (StepIsBounded script) (route_held_by script s asked o)
+  route-held-by-bounded s asked None k caller = route-call-bounded s asked k caller
+  route-held-by-bounded s asked (Some name) k caller = route-cancel-bounded s name asked k caller
+
+  -- What was held, a call or its withdrawal, is routed.
+  pub route-held-bounded : (s : Step) (asked : Asked) → StepIsBounded script s → IsNode script asked.caller
+      → Of (StepIsBounded script) (route_held script s asked)
+  route-held-bounded s asked k caller = route-held-by-bounded s asked (withdrawn_from asked.call) k caller

@@ -26,11 +26,11 @@ use Rattle.world_laws.specs.Invariant.{Holds}
 use Rattle.world_laws.specs.Sights.{frames_to}
 use Rattle.rule_laws.proofs.Opening.{opening-holds}
 use Rattle.bound_laws.specs.Bounded.{FrameIsBounded, IsBounded, IsShapedAndBounded, NamesNodes, NodeIsBounded, PlaceNamesNodes}
-use Rattle.bound_laws.proofs.Parts.{none-rises, put-rises}
 use Rattle.bound_laws.proofs.Scripts.{sound-is-runnable}
 use Rattle.bound_laws.proofs.StepParts.{first-is-node, none-is}
 use Rattle.bound_laws.proofs.Watched.{none-watched}
 use Rattle.bound_laws.proofs.Worlds.{event-stays-bounded}
+use Rattle.bound_laws.proofs.Waiters.{no-deeds-bounded, put-deed-bounded}
 use Rattle.kernel_laws.proofs.Lists.{all-at}
 
 -- ---- nothing is on its way
@@ -87,7 +87,7 @@ module _ (script : Script) where
         fork = λ block. none-is (new_caller []).under_way (calls.Fork block) refl;
         size = λ count create excl.
             none-is (new_caller []).under_way (calls.SemGet None count create excl) refl;
-        deeds = none-rises;
+        deeds = no-deeds-bounded script;
         watches = none-watched p;
         cache = tt;
         directory = opening-names (first-is-node script p own);
@@ -103,7 +103,7 @@ module _ (script : Script) where
         fork = λ block. none-is (new_caller []).under_way (calls.Fork block) refl;
         size = λ count create excl.
             none-is (new_caller []).under_way (calls.SemGet None count create excl) refl;
-        deeds = put-rises none_named (Proc 1) (LivingBody new_row) none-rises;
+        deeds = put-deed-bounded script none_named (Proc 1) (LivingBody new_row) (no-deeds-bounded script) tt;
         watches = none-watched 1;
         cache = tt;
         directory = opening-names own;

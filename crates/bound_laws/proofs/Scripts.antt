@@ -3,15 +3,16 @@
 use Rattle.std.proofs.Common.{◌≡◌, ℕ, zero, suc, ◌+◌, ◌-◌, Bool, true, false, List, [], ◌∷◌, drop, Option, Some, None, refl, ap, sym, subst, ◌∙◌, inl, inr, arith}
 use Rattle.std.specs.Prelude.{if◌then◌else◌, slice_get}
 use Rattle.std.specs.List.{AllByRecursion, list_all, list_any}
-use Rattle.std.proofs.lemmas.Bool.{and_parts, cases_Bool, eqb-true, false≢true, or_cases}
+use Rattle.std.proofs.lemmas.Bool.{and_parts, cases_Bool, eqb-true, false≢true, or_cases, or_parts}
 use Rattle.pico_base.specs.declared.call.Call.{Call}
 use Rattle.pico_base.specs.declared.call.Call.TheVariants as calls
 use Rattle.pico_base.specs.declared.script.Block.{Block}
 use Rattle.pico_base.specs.declared.script.Line.{Line}
 use Rattle.pico_base.specs.declared.script.Script.{Script}
 use Rattle.pico_base.specs.declared.signal.Sig.{Sig}
-use Rattle.kernel_model.specs.Fitting.{block_at}
+use Rattle.kernel_model.specs.Fitting.{block_at, IsDue}
 use Rattle.kernel_model.specs.Script.{IsSoundScript, fork_targets, is_line}
+use Rattle.waiting_model.specs.Calls.{is_withdrawal}
 use Rattle.entry_laws.proofs.Places.{DueLine, due-line, fork-of}
 use Rattle.node_model.specs.Caller.{Caller, caller_place, due_call, lines_in, lines_of}
 use Rattle.world_model.specs.Lives.{forks_in, is_forked_by, names_block}
@@ -22,6 +23,7 @@ use Rattle.world_laws.specs.Runnable.{IsRunnable}
 use Rattle.bound_laws.proofs.Blocks.{AreTried, tries-with-exit}
 use Rattle.bound_laws.proofs.Costs.{IsBehind, TargetsAre, forward-from, targets-are-behind, targets-of-tos}
 use Rattle.bound_laws.proofs.Ranges.{some-blocks}
+use Rattle.bound_laws.proofs.Calls.{IsRanged, due-is-ranged, is_bad, none-bad, ranged-withdraws-not}
 
 -- one of a list by its place
 pub test-at : {X : Type 0} (test : X → Bool) (xs : List X) (i : ℕ) (x : X) → list_all test xs ≡ true
@@ -126,3 +128,29 @@ module _ (script : Script) (sound : IsSoundScript script) where
       drop-targets (IsBehind script (1 + (p - 1))) c.line (lines_of script p) d.line d.rest
       (targets-are-behind script sound p) d.left
       in (subst (λ (x : Call). AllByRecursion (IsBehind script (1 + (p - 1))) (fork_targets x)) forks targets).0
+
+-- ---- the call that is due
+
+none-dropped : (i : ℕ) (lines : List Line) → list_any is_bad lines ≡ false → list_any is_bad (drop i lines) ≡ false
+none-dropped zero lines h = h
+none-dropped (suc i) [] h = refl
+none-dropped (suc i) (line ∷ lines) h =
+    none-dropped i lines (or_parts (is_bad line) (list_any is_bad lines) h).1
+
+module _ (script : Script) (sound : IsSoundScript script) where
+  none-bad-in : (p : ℕ) (o : Option Block) → block_at script p ≡ o → list_any is_bad (lines_in o) ≡ false
+  none-bad-in p None is = refl
+  none-bad-in p (Some b) is =
+      none-bad b.lines (test-at (λ (x : Block). list_all is_line x.lines) script.blocks (p - 1) b sound.lines is)
+
+  -- Each call that is due has the ranges of a line,
+  pub due-in-script-is-ranged : (p : ℕ) (c : Caller) (call : Call) → IsDue (caller_place script p c) call
+      → IsRanged call
+  due-in-script-is-ranged p c call is_due =
+      due-is-ranged (caller_place script p c) call
+      (none-dropped c.line (lines_of script p) (none-bad-in p (block_at script p) refl)) is_due
+
+  -- and is no withdrawal.
+  pub never-withdraws : (p : ℕ) (c : Caller) (call : Call) → IsDue (caller_place script p c) call
+      → is_withdrawal call ≡ false
+  never-withdraws p c call is_due = ranged-withdraws-not call (due-in-script-is-ranged p c call is_due)

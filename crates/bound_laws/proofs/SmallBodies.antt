@@ -1,7 +1,7 @@
 -- What an entry of a small call leaves of bodies is small where they were.
 use Rattle.std.proofs.Common.{◌≡◌, ℕ, ◌<◌, ◌^◌, Bool, true, false, not, ◌&&◌, ◌||◌, nat_eq, nat_le, List, [], ◌∷◌, fold, Option, Some, None, Result, Ok, Err, refl, ap, sym, subst, ◌∙◌, inl, inr}
 use Rattle.std.specs.Prelude.{if◌then◌else◌, is_some}
-use Rattle.std.proofs.lemmas.Bool.{cases_Bool, cases_eq, false≢true}
+use Rattle.std.proofs.lemmas.Bool.{cases_Bool, false≢true}
 use Rattle.pico_base.specs.declared.call.Call.{Call}
 use Rattle.pico_base.specs.declared.call.Call.TheVariants as calls
 use Rattle.pico_base.specs.declared.call.Home.TheVariants as homes
@@ -13,7 +13,6 @@ use Rattle.pico_base.specs.declared.reply.Errno.{Errno}
 use Rattle.pico_base.specs.declared.reply.Outcome.{Outcome}
 use Rattle.pico_base.specs.declared.signal.SigArg.TheVariants.{Zero, Is, Bad}
 use Rattle.number_maps.specs.Maps.{Numbered, get, put}
-use Rattle.number_maps.proofs.LookUps.{get-put-same, get-put-other}
 use Rattle.kernel_model.specs.Effect.{Effect, refuse, reply_with}
 use Rattle.kernel_model.specs.Kernel.{Kernel, Parent, Process, living_at, opening, parent_in, with_alive}
 use Rattle.kernel_model.specs.Kernel as kernel
@@ -28,7 +27,7 @@ use Rattle.kernel_model.specs.Valid.{IsValid}
 use Rattle.kernel_model.specs.Waiting.{is_waiting}
 use Rattle.kernel_laws.proofs.EndChanges.{parent-is}
 use Rattle.kernel_laws.proofs.People.{each-put, from-living}
-use Rattle.kernel_laws.proofs.Plain.{Of, by_test, from_some, not_some, of_choice}
+use Rattle.kernel_laws.proofs.Plain.{Of, by_test, not_some, of_choice}
 use Rattle.kernel_laws.proofs.Steps.{Step, step}
 use Rattle.node_model.specs.Bodies.{body_in, process_body, queue_body, set_body}
 use Rattle.node_model.specs.Carrying.{is_served, makes_or_ends, on_body}
@@ -38,6 +37,7 @@ use Rattle.serve_laws.proofs.Steps.{served-calls}
 use Rattle.entry_laws.proofs.Names.{name-cases}
 use Rattle.deed_laws.specs.Small.{AreSmallSignals, IsSmall, IsSmallCall, IsSmallQueue, IsSmallSet}
 use Rattle.deed_laws.proofs.Small.{small-empty, small-inherited, small-left, small-made, small-new, small-noted}
+use Rattle.bound_laws.proofs.Tables.{put-thing}
 
 -- each body of the kernel is small
 abbrev pub AreAllSmall : Kernel → Type 0
@@ -98,15 +98,6 @@ gone-lives a h = cc
 
 ended-lives : (ending : Ending) (a : Alive) → kernel.Ended ending ≡ kernel.Living a → ⊥
 ended-lives ending a h = cc
-
-put-thing : {V : Type 0} (P : V → Type 0) (m : Numbered V) (k : ℕ) (v : V) → ((n : ℕ) (x : V) → get m n ≡ Some x → P x)
-    → P v → (n : ℕ) (x : V) → get (put m k v) n ≡ Some x → P x
-put-thing P m k v each own n x is =
-    elim (cases_eq n k) [
-      | inl same ↦
-          subst P (from_some v x (sym (get-put-same m k v) ∙ ap (get (put m k v)) (sym same) ∙ is)) own
-      | inr other ↦ each n x (sym (get-put-other m k v n other) ∙ is)
-    ]
 
 put-living : (ps : Numbered Process) (p : ℕ) (a : Alive) → AreSmallRows ps → AreSmallSignals a.row.signals
     → AreSmallRows (put ps p (kernel.Living a))

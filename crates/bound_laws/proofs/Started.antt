@@ -1,5 +1,5 @@
 -- A node starts its process's next call: bounds stay.
-use Rattle.std.proofs.Common.{if◌then◌else◌, ◌≡◌, ℕ, ◌+◌, Bool, true, false, not, ◌&&◌, nat_eq, Option, Some, None, Result, Ok, Err, refl, ap, sym, subst, ◌∙◌, arith}
+use Rattle.std.proofs.Common.{if◌then◌else◌, ◌≡◌, ℕ, ◌+◌, Bool, true, false, not, ◌&&◌, nat_eq, Option, Some, None, Result, Ok, Err, refl, ap, sym, subst, ◌∙◌, arith, [], map, ◌++◌, ◌∷◌}
 use Rattle.std.specs.Option.{option_and_then}
 use Rattle.std.proofs.lemmas.Bool.{eq-eqb, false≢true}
 use Rattle.pico_base.specs.declared.call.Call.{Call}
@@ -15,18 +15,19 @@ use Rattle.pico_base.specs.declared.reply.Reply.TheVariants as replies
 use Rattle.pico_base.specs.declared.script.Script.{Script}
 use Rattle.pico_base.specs.Home.{home_of}
 use Rattle.rpc_frame.specs.declared.frame.Frame.TheVariants as frames
-use Rattle.kernel_laws.proofs.Plain.{Of, by_test, from_some, of-map, of-next, of-test}
+use Rattle.kernel_laws.proofs.Plain.{Of, by_test, from_some, of-map, of-next, of-test, of-some}
 use Rattle.kernel_model.specs.Numbers.{is_u32}
 use Rattle.kernel_model.specs.Row.{Row}
 use Rattle.kernel_model.specs.Script.{IsSoundScript}
 use Rattle.kernel_model.specs.SemaphoreSet.{SemaphoreSet, new_set}
-use Rattle.kernel_model.specs.Waiting.{is_waiting}
+use Rattle.waiting_model.specs.declared.callers.Waiting.{Waiting}
+use Rattle.waiting_model.specs.Calls.{is_withdrawal, may_park}
 use Rattle.node_model.specs.Cache.{look, owner_in}
 use Rattle.node_model.specs.Caller.{answer_call, due_call, start_call}
 use Rattle.node_model.specs.Kinds.{for_kind, put_all}
 use Rattle.node_model.specs.Leases.{is_used_up}
 use Rattle.node_model.specs.Parcels.{end_first}
-use Rattle.node_model.specs.Serving.{serve}
+use Rattle.node_model.specs.Serving.{serve, waiting_as}
 use Rattle.world_model.specs.Node.{Leaving, Node, Over, asked_here, can_run, holds, is_leader, own_row}
 use Rattle.world_model.specs.Numbers.{make}
 use Rattle.world_model.specs.Routes.{route_call}
@@ -36,22 +37,27 @@ use Rattle.world_model.specs.Step.{Step, carry_out, enter, reply_here, send, ste
 use Rattle.world_model.specs.World.{IsNode}
 use Rattle.bound_laws.specs.Bounded.{LeadsToNode, NodeIsBounded, StepIsBounded}
 use Rattle.bound_laws.proofs.NewNames.{ForksNodes, make-bounded}
-use Rattle.bound_laws.proofs.Parts.{look-names, owner-is-node, put-all-rises}
+use Rattle.bound_laws.proofs.Parts.{look-names, owner-is-node}
 use Rattle.bound_laws.proofs.Routed.{route-call-bounded}
 use Rattle.bound_laws.proofs.Scripts.{due-fork-is-behind}
-use Rattle.bound_laws.proofs.StepParts.{answered-none, carry-out-bounded, none-is, send-bounded, send-first-bounded, serve-asked-bounded, step-to-bounded, with-cache-bounded, with-caller-bounded, with-deeds-bounded, with-node-bounded, with-tables-bounded}
+use Rattle.bound_laws.proofs.StepParts.{answered-none, carry-out-bounded, none-is, send-bounded, send-first-bounded, serve-asked-bounded, step-to-bounded, with-cache-bounded, with-caller-bounded, with-deeds-bounded, with-node-bounded, with-tables-bounded, carry-out-waking-bounded}
+use Rattle.bound_laws.proofs.Waiters.{ServedNamesNodes, gone-name-nodes, put-deeds-bounded, served-names}
 
 module _ (script : Script) where
   -- ---- calls on the process itself
 
   act-bounded : (s : Step) (call : Call) → StepIsBounded script s → Of (StepIsBounded script) (act script s call)
   act-bounded s call k =
-      of-map (StepIsBounded script) (serve s.node.deeds s.node.pid call) (carry_out_own script s call)
-      (λ served _.
-      carry-out-bounded script (with_deeds s (put_all s.node.deeds served.changes)) (asked_here s.node call)
-      served.reply
+      let who : Waiting = waiting_as (asked_here s.node call)
+      in of-map (StepIsBounded script) (serve s.node.deeds who) (carry_out_own script s call)
+      (λ served is.
+      let names : ServedNamesNodes script served =
+      of-some (ServedNamesNodes script) (serve s.node.deeds who) served
+      (served-names script s.node.deeds who k.node.deeds k.node.number) is
+      in carry-out-waking-bounded script (with_deeds s (put_all s.node.deeds served.changes)) (asked_here s.node call)
+      served.own served.wakes
       (with-deeds-bounded script s (put_all s.node.deeds served.changes) k
-      (put-all-rises served.changes s.node.deeds k.node.deeds)) k.node.number)
+      (put-deeds-bounded script served.changes s.node.deeds k.node.deeds names.changes)) k.node.number names.wakes)
 
   start-making-bounded : (s : Step) (call : Call) (kind : Kind) → StepIsBounded script s → ForksNodes script call
       → Of (StepIsBounded script) (start_making script s call kind)
@@ -98,13 +104,18 @@ module _ (script : Script) where
   start-at-bounded s call name k =
       by_test (Of (StepIsBounded script)) (holds s.node name)
       (serve_asked script s name (asked_here s.node call))
-      (request script (with_node s (with_look s.node name)) call (owner_in s.node.cache name))
+      (if may_park call
+      then ask script s call
+      else request script (with_node s (with_look s.node name)) call (owner_in s.node.cache name))
       (λ _. serve-asked-bounded script s name (asked_here s.node call) k k.node.number)
+      (λ _. by_test (Of (StepIsBounded script)) (may_park call) (ask script s call)
+      (request script (with_node s (with_look s.node name)) call (owner_in s.node.cache name))
+      (λ _. ask-bounded s call k)
       (λ _. request-bounded (with_node s (with_look s.node name)) call (owner_in s.node.cache name)
       (with-node-bounded script s (with_look s.node name) k
       (with-cache-bounded script s.node (look s.node.cache name) k.node
       (look-names script s.node.cache name k.node.cache)))
-      (owner-is-node script s.node.cache name k.node.cache))
+      (owner-is-node script s.node.cache name k.node.cache)))
 
   -- ---- the end
 
@@ -116,7 +127,8 @@ module _ (script : Script) where
       in carry-out-bounded script (with_node s over) (asked_here n call) replies.Ended
       (with-node-bounded script s over k
       (with-tables-bounded script n (put_all n.deeds (end_first n.pid row)) n.watches n.leases Over k.node
-      (put-all-rises (end_first n.pid row) n.deeds k.node.deeds) k.node.watches)) k.node.number
+      (put-deeds-bounded script (end_first n.pid row) n.deeds k.node.deeds
+      (gone-name-nodes script (map (λ e. e.pid) row.family.ended ++ n.pid ∷ []))) k.node.watches)) k.node.number
 
   leave-bounded : (s : Step) → StepIsBounded script s → StepIsBounded script (leave s)
   leave-bounded s k =
@@ -158,7 +170,7 @@ module _ (script : Script) where
   start-bounded : (n : Node) (row : Row) (call : Call) → NodeIsBounded script n → MayBeUnderWay call
       → Of (StepIsBounded script) (start script n row call)
   start-bounded n row call k may =
-      by_test (Of (StepIsBounded script)) (is_waiting call) None
+      by_test (Of (StepIsBounded script)) (is_withdrawal call) None
       (start_by script (step_to (record n { caller = start_call n.caller call })) call row (home_of n.pid call))
       (λ _. tt)
       (λ _. start-by-bounded (step_to (record n { caller = start_call n.caller call })) call row (home_of n.pid call)

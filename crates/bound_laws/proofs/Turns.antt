@@ -1,7 +1,9 @@
 -- A node takes a frame: bounds stay, rule by rule.
-use Rattle.std.proofs.Common.{◌≡◌, ℕ, not, ◌&&◌, nat_eq, List, [], ◌∷◌, ◌++◌, map, fold, Option, Some, None, refl}
-use Rattle.std.specs.List.{AllByRecursion, list_any}
+use Rattle.std.proofs.Common.{◌≡◌, ℕ, not, ◌&&◌, nat_eq, List, [], ◌∷◌, ◌++◌, map, fold, Option, Some, None, refl, length, true}
+use Rattle.std.specs.List.{AllByRecursion, list_any, list_all}
 use Rattle.std.specs.Option.{option_and_then, option_map}
+use Rattle.std.proofs.lemmas.Bool.{and_parts, leb-true}
+use Rattle.std.specs.Prelude.{nat_le}
 use Rattle.pico_base.specs.declared.call.Call.{Call}
 use Rattle.pico_base.specs.declared.call.Call.TheVariants as calls
 use Rattle.pico_base.specs.declared.call.Home.{Home}
@@ -17,11 +19,12 @@ use Rattle.rpc_frame.specs.declared.deed.PackedDeed.{PackedDeed}
 use Rattle.rpc_frame.specs.declared.deed.Parcel.{Parcel}
 use Rattle.rpc_frame.specs.declared.frame.Frame.{Frame}
 use Rattle.rpc_frame.specs.declared.frame.Frame.TheVariants as frames
-use Rattle.kernel_laws.proofs.Plain.{Of, by_test, of-map, of-next, of-test}
+use Rattle.kernel_laws.proofs.Plain.{Of, by_test, of-map, of-next, of-test, of-some}
 use Rattle.kernel_model.specs.Script.{IsSoundScript, Vars}
-use Rattle.kernel_model.specs.Waiting.{is_waiting}
+use Rattle.waiting_model.specs.declared.callers.Waiting.{Waiting}
+use Rattle.waiting_model.specs.Calls.{is_withdrawal}
 use Rattle.node_model.specs.declared.held.Held.TheVariants.{Ending}
-use Rattle.node_model.specs.Bodies.{AQueue, ASet, Body, Ended, Gone, Removed, Living as LivingBody}
+use Rattle.node_model.specs.Bodies.{AQueue, ASet, Body, Ended, Gone, Removed, Living as LivingBody, waiters_of}
 use Rattle.node_model.specs.Cache.{forget, learn}
 use Rattle.node_model.specs.Caller.{answer_call, new_caller}
 use Rattle.node_model.specs.Directory.{Directory, arrive, bound_for, has_more, held_for, is_coming, place_name, place_of, stays, upcoming, with_leaving, with_left, with_range}
@@ -33,7 +36,7 @@ use Rattle.node_model.specs.Watches.{unwatch}
 use Rattle.world_model.specs.Calls.{answered_by, ask_after, asks_as, bounce, bounce_or_nobody, end_with_reply, forwarded_by, is_for_others, is_from_leader, is_on_name_or_removal, is_to_leader, requested_by, take_answer, take_ask, take_bounce, take_forward, take_not_owner, take_request, with_forgotten, with_learnt}
 use Rattle.world_model.specs.Ends.{exit_here, names_in}
 use Rattle.world_model.specs.Lives.{be_born, born_with, end_released, hand_over, is_end, is_forked_by, is_new_row, is_of_process, may_leave, may_take, place_family, send_to_leader, take_checkpoint, take_exit, take_leaving, take_left, take_recall_all}
-use Rattle.world_model.specs.Moves.{come_back, give_back as gives_back, goes_on_to, is_at, is_new_here, keep, pass_on, receive_deed, suggest, take_give_back, take_grant, take_recall, take_suggest}
+use Rattle.world_model.specs.Moves.{come_back, give_back as gives_back, goes_on_to, is_at, is_new_here, keep, pass_on, receive_deed, suggest, take_give_back, take_grant, take_recall, take_suggest, has_nodes}
 use Rattle.world_model.specs.Node.{Left, Node, holds, is_born, is_leader, is_leaving_stage, is_node, is_unborn, under_way_as}
 use Rattle.world_model.specs.Numbers.{make}
 use Rattle.world_model.specs.Ranges.{go_on_with, may_lease, take_lease, take_lease_ask, take_placed}
@@ -41,16 +44,20 @@ use Rattle.world_model.specs.Routes.{recall_from, route_call}
 use Rattle.world_model.specs.Serving.{serve_asked, serve_nobody, without_deed}
 use Rattle.world_model.specs.Starting.{run}
 use Rattle.world_model.specs.Step.{Step, send, step_to, with_directory}
-use Rattle.world_model.specs.Turn.{take_by_kind}
+use Rattle.world_model.specs.Turn.{take_by_kind, take_by_rules}
 use Rattle.world_model.specs.World.{IsNode}
-use Rattle.bound_laws.specs.Bounded.{FrameIsBounded, FrameNamesNodes, LeadsToNode, NamesNodes, NodeIsBounded, StepIsBounded}
+use Rattle.world_model.specs.Releases.{release}
+use Rattle.world_model.specs.Strikes.{strike}
+use Rattle.bound_laws.specs.Bounded.{FrameIsBounded, FrameNamesNodes, LeadsToNode, NamesNodes, NodeIsBounded, StepIsBounded, WaitersAreOfNodes}
 use Rattle.bound_laws.proofs.NewNames.{ForksNodes, make-bounded}
-use Rattle.bound_laws.proofs.Parts.{arrive-names, bound-is-node, forget-names, held-are-of-nodes, learn-names, leaving-names, left-names, none-rises, place-name-names, put-rises, range-names, without-rises}
+use Rattle.bound_laws.proofs.Parts.{arrive-names, bound-is-node, forget-names, held-are-of-nodes, learn-names, leaving-names, left-names, place-name-names, range-names}
 use Rattle.bound_laws.proofs.Released.{exit-here-bounded, release-bounded}
 use Rattle.bound_laws.proofs.Routed.{recall-from-bounded, route-call-bounded}
 use Rattle.bound_laws.proofs.Started.{ask-bounded, run-bounded}
 use Rattle.bound_laws.proofs.Watched.{none-watched, unwatched}
 use Rattle.bound_laws.proofs.StepParts.{answered-none, first-is-node, none-is, send-bounded, send-first-bounded, serve-asked-bounded, serve-nobody-bounded, step-to-bounded, with-cache-bounded, with-caller-bounded, with-directory-bounded, with-tables-bounded}
+use Rattle.bound_laws.proofs.Waiters.{no-deeds-bounded, put-deed-bounded, without-deed-bounded}
+use Rattle.bound_laws.proofs.Struck.{strike-bounded, take-cancel-bounded}
 
 module _ (script : Script) where
   abbrev Bounded : Option Step → Type 0
@@ -106,7 +113,7 @@ module _ (script : Script) where
       → Bounded (take_forward script n sender asked)
   take-forward-bounded n sender asked k own =
       of-test (StepIsBounded script)
-      (is_from_leader n sender && (is_node script asked.caller && not (is_waiting asked.call)))
+      (is_from_leader n sender && (is_node script asked.caller && not (is_withdrawal asked.call)))
       (forwarded_by script n asked (home_of asked.pid asked.call))
       (λ _. forwarded-bounded n asked (home_of asked.pid asked.call) k own)
 
@@ -126,7 +133,7 @@ module _ (script : Script) where
   take-request-bounded : (n : Node) (sender ticket pid : ℕ) (call : Call) → NodeIsBounded script n
       → IsNode script sender → Bounded (take_request script n sender ticket pid call)
   take-request-bounded n sender ticket pid call k own =
-      of-test (StepIsBounded script) ((is_born n && not (nat_eq sender n.number)) && not (is_waiting call))
+      of-test (StepIsBounded script) ((is_born n && not (nat_eq sender n.number)) && not (is_withdrawal call))
       (requested_by script n (record { caller = sender; ticket = ticket; pid = pid; call = call }) (home_of pid call))
       (λ _. requested-bounded n (record { caller = sender; ticket = ticket; pid = pid; call = call })
       (home_of pid call) k own)
@@ -249,13 +256,31 @@ module _ (script : Script) where
       (λ body _. send-first-bounded script (step_to (without_deed n name)) (frames.GiveBack (pack name body))
       (step-to-bounded script (without_deed n name)
       (with-tables-bounded script n (without_named n.deeds name) (unwatch n.watches name) n.leases n.stage k
-      (without-rises n.deeds name k.deeds) (unwatched n.number n.watches name k.watches))) tt))
+      (without-deed-bounded script n.deeds name k.deeds) (unwatched n.number n.watches name k.watches))) tt))
 
-  keep-bounded : (n : Node) (name : Name) (body : Body) → NodeIsBounded script n
+  -- where each has a node of the script, calls of nodes wait there
+  have-nodes : (ws : List Waiting) → list_all (λ w. is_node script w.caller) ws ≡ true
+      → AllByRecursion (λ w. IsNode script w.caller) ws
+  have-nodes [] h = tt
+  have-nodes (w ∷ ws) h =
+      let parts = and_parts (is_node script w.caller) (list_all (λ v. is_node script v.caller) ws) h
+      in let ends = and_parts (nat_le 1 w.caller) (nat_le w.caller (length script.blocks)) parts.0
+      in (
+        record {
+          low = leb-true 1 w.caller ends.0;
+          high = leb-true w.caller (length script.blocks) ends.1;
+        },
+        have-nodes ws parts.1,
+      )
+
+  pub names-nodes : (body : Body) → has_nodes script body ≡ true → WaitersAreOfNodes script body
+  names-nodes body h = have-nodes (waiters_of body) h
+
+  keep-bounded : (n : Node) (name : Name) (body : Body) → NodeIsBounded script n → WaitersAreOfNodes script body
       → NodeIsBounded script (keep n name body)
-  keep-bounded n name body k =
+  keep-bounded n name body k all =
       with-tables-bounded script n (put_named n.deeds name body) n.watches n.leases n.stage k
-      (put-rises n.deeds name body k.deeds) k.watches
+      (put-deed-bounded script n.deeds name body k.deeds all) k.watches
 
   goes-on-to-node : (d : Directory) (o : Option ℕ) → LeadsToNode script o → LeadsToNode script (goes_on_to d o)
   goes-on-to-node d None own = tt
@@ -263,12 +288,13 @@ module _ (script : Script) where
       by_test (LeadsToNode script) (not (nat_eq to 1) && stays d to) (Some to) None (λ _. own) (λ _. tt)
 
   pass-on-bounded : (n : Node) (name : Name) (body : Body) (o : Option ℕ) → NodeIsBounded script n
-      → LeadsToNode script o → StepIsBounded script (pass_on n name body o)
-  pass-on-bounded n name body None k own =
+      → WaitersAreOfNodes script body → LeadsToNode script o → StepIsBounded script (pass_on n name body o)
+  pass-on-bounded n name body None k all own =
       step-to-bounded script (with_directory (keep n name body) (arrive n.leader.directory name 1))
-      (with-directory-bounded script (keep n name body) (arrive n.leader.directory name 1) (keep-bounded n name body k)
+      (with-directory-bounded script (keep n name body) (arrive n.leader.directory name 1)
+      (keep-bounded n name body k all)
       (arrive-names script n.leader.directory name 1 k.directory (first-is-node script n.number k.number)))
-  pass-on-bounded n name body (Some to) k own =
+  pass-on-bounded n name body (Some to) k all own =
       send-bounded script (step_to (with_directory n (arrive n.leader.directory name to))) to
       (frames.Grant (pack name body))
       (step-to-bounded script (with_directory n (arrive n.leader.directory name to))
@@ -277,12 +303,22 @@ module _ (script : Script) where
 
   -- The step from which a GiveBack releases what was held is bounded.
   pub passed-on-bounded : (n : Node) (name : Name) (body : Body) → NodeIsBounded script n
+      → WaitersAreOfNodes script body
       → StepIsBounded script
       (pass_on n name body (goes_on_to n.leader.directory (bound_for n.leader.directory name)))
-  passed-on-bounded n name body k =
-      pass-on-bounded n name body (goes_on_to n.leader.directory (bound_for n.leader.directory name)) k
+  passed-on-bounded n name body k all =
+      pass-on-bounded n name body (goes_on_to n.leader.directory (bound_for n.leader.directory name)) k all
       (goes-on-to-node n.leader.directory (bound_for n.leader.directory name)
       (bound-is-node script n.leader.directory name k.directory))
+
+  come-back-bounded : (n : Node) (name : Name) (body : Body) → NodeIsBounded script n
+      → Bounded (come_back script n name body)
+  come-back-bounded n name body k =
+      let d : Directory = n.leader.directory
+      in of-test (StepIsBounded script) (has_nodes script body)
+      (release script (held_for d name) (pass_on n name body (goes_on_to d (bound_for d name))))
+      (λ h. release-bounded script (held_for d name) (pass_on n name body (goes_on_to d (bound_for d name)))
+      (passed-on-bounded n name body k (names-nodes body h)) (held-are-of-nodes script d name k.directory))
 
   take-give-back-bounded : (n : Node) (sender : ℕ) (deed : PackedDeed) → NodeIsBounded script n
       → Bounded (take_give_back script n sender deed)
@@ -291,29 +327,30 @@ module _ (script : Script) where
       (is_leader n && (is_coming n.leader.directory deed.name && is_new_here n deed.name))
       (option_and_then (come_back script n deed.name) (read_deed deed))
       (λ _. of-next (StepIsBounded script) (read_deed deed) (come_back script n deed.name)
-      (λ body _. release-bounded script (held_for n.leader.directory deed.name) _
-      (passed-on-bounded n deed.name body k) (held-are-of-nodes script n.leader.directory deed.name k.directory)))
+      (λ body _. come-back-bounded n deed.name body k))
 
   take-grant-bounded : (n : Node) (sender : ℕ) (deed : PackedDeed) → NodeIsBounded script n
-      → Bounded (take_grant n sender deed)
+      → Bounded (take_grant script n sender deed)
   take-grant-bounded n sender deed k =
       of-test (StepIsBounded script) (is_from_leader n sender && is_new_here n deed.name)
-      (option_map (receive_deed n deed.name) (read_deed deed))
-      (λ _. of-map (StepIsBounded script) (read_deed deed) (receive_deed n deed.name)
-      (λ body _. step-to-bounded script (keep n deed.name body) (keep-bounded n deed.name body k)))
+      (option_and_then (receive_deed script n deed.name) (read_deed deed))
+      (λ _. of-next (StepIsBounded script) (read_deed deed) (receive_deed script n deed.name)
+      (λ body _. of-test (StepIsBounded script) (has_nodes script body) (Some (step_to (keep n deed.name body)))
+      (λ h. step-to-bounded script (keep n deed.name body) (keep-bounded n deed.name body k (names-nodes body h)))))
 
   -- ---- frames about a process's life
 
   born-bounded : (n : Node) (sender pid parent : ℕ) (vars : Vars) (body : Body) → NodeIsBounded script n
-      → IsNode script sender → NodeIsBounded script (be_born n sender pid parent vars body)
-  born-bounded n sender pid parent vars body k own =
+      → IsNode script sender → WaitersAreOfNodes script body
+      → NodeIsBounded script (be_born n sender pid parent vars body)
+  born-bounded n sender pid parent vars body k own all =
       record {
         number = k.number;
         parent_node = own;
         fork = λ block. none-is (new_caller vars).under_way (calls.Fork block) refl;
         size = λ count create excl.
             none-is (new_caller vars).under_way (calls.SemGet None count create excl) refl;
-        deeds = put-rises none_named (Proc pid) body none-rises;
+        deeds = put-deed-bounded script none_named (Proc pid) body (no-deeds-bounded script) all;
         watches = k.watches;
         cache = k.cache;
         directory = k.directory;
@@ -327,7 +364,7 @@ module _ (script : Script) where
       of-test (StepIsBounded script) (is_new_row row)
       (Some (step_to (be_born n sender pid parent vars (LivingBody row))))
       (λ _. step-to-bounded script (be_born n sender pid parent vars (LivingBody row))
-      (born-bounded n sender pid parent vars (LivingBody row) k own))
+      (born-bounded n sender pid parent vars (LivingBody row) k own tt))
   born-with-bounded n sender pid parent vars (Ended ending) k own = tt
   born-with-bounded n sender pid parent vars Gone k own = tt
   born-with-bounded n sender pid parent vars (AQueue queue) k own = tt
@@ -378,7 +415,8 @@ module _ (script : Script) where
       (Some (fold send_to_leader (step_to empty) (give_all n.deeds n.pid n.parent call)))
       (λ _. sent-to-leader (give_all n.deeds n.pid n.parent call) (step_to empty)
       (step-to-bounded script empty
-      (with-tables-bounded script n none_named none_named n.leases Left k none-rises (none-watched n.number)))
+      (with-tables-bounded script n none_named none_named n.leases Left k (no-deeds-bounded script)
+      (none-watched n.number)))
       (given-name (pack_all Msg n.deeds.queues ++ pack_all Sem n.deeds.sets) (parcel_of n.deeds n.pid n.parent call)))
 
   take-recall-all-bounded : (n : Node) (sender : ℕ) → NodeIsBounded script n → Bounded (take_recall_all n sender)
@@ -405,42 +443,51 @@ module _ (script : Script) where
       (step_to (with_directory n (with_left n.leader.directory sender))) (left-noted-bounded n sender k) (tt, tt)))
 
   take-exit-bounded : (n : Node) (sender : ℕ) (parcel : Parcel) → NodeIsBounded script n
-      → Bounded (take_exit n sender parcel)
+      → Bounded (take_exit script n sender parcel)
   take-exit-bounded n sender parcel k =
       of-test (StepIsBounded script)
       (is_from_leader n sender && not (list_any (leases_hold n.leases) (names_in parcel)))
-      (exit_here (step_to n) parcel)
+      (exit_here script (step_to n) parcel)
       (λ _. exit-here-bounded script (step_to n) parcel (step-to-bounded script n k))
 
   -- ---- a turn
 
+  pub take-by-kind-bounded : (n : Node) (to sender : ℕ) (frame : Frame) → NodeIsBounded script n
+      → FrameIsBounded script to sender frame → Bounded (take_by_kind script n sender frame)
+  take-by-kind-bounded n to sender (frames.Ask ticket pid call) k f =
+      take-ask-bounded n sender ticket pid call k f.sender_is
+  take-by-kind-bounded n to sender (frames.Request ticket pid call) k f =
+      take-request-bounded n sender ticket pid call k f.sender_is
+  take-by-kind-bounded n to sender (frames.Forward asked) k f = take-forward-bounded n sender asked k f.says
+  take-by-kind-bounded n to sender (frames.Bounce asked) k f = take-bounce-bounded n sender asked k f.says
+  take-by-kind-bounded n to sender (frames.Answer ticket reply) k f =
+      take-answer-bounded n sender ticket reply k f.sender_is
+  take-by-kind-bounded n to sender (frames.NotOwner ticket) k f = take-not-owner-bounded n ticket k
+  take-by-kind-bounded n to sender (frames.LeaseAsk kind) k f = take-lease-ask-bounded n sender kind k f.sender_is
+  take-by-kind-bounded n to sender (frames.Lease kind first) k f = take-lease-bounded n sender kind first k
+  take-by-kind-bounded n to sender (frames.Placed name node) k f = take-placed-bounded n sender name node k f.says
+  take-by-kind-bounded n to sender (frames.Checkpoint pid parent deed vars) k f =
+      take-checkpoint-bounded n sender pid parent deed vars k f.sender_is
+  take-by-kind-bounded n to sender (frames.Suggest name node) k f =
+      take-suggest-bounded n sender name node k f.sender_is f.says
+  take-by-kind-bounded n to sender (frames.Recall name) k f = take-recall-bounded n sender name k
+  take-by-kind-bounded n to sender (frames.GiveBack deed) k f = take-give-back-bounded n sender deed k
+  take-by-kind-bounded n to sender (frames.Grant deed) k f = take-grant-bounded n sender deed k
+  take-by-kind-bounded n to sender (frames.Leaving pid parent parent_node) k f =
+      take-leaving-bounded n sender pid parent parent_node k f.sender_is f.says
+  take-by-kind-bounded n to sender frames.RecallAll k f = take-recall-all-bounded n sender k
+  take-by-kind-bounded n to sender (frames.Left parcel) k f = take-left-bounded n sender parcel k
+  take-by-kind-bounded n to sender (frames.ExitTo parcel) k f = take-exit-bounded n sender parcel k
+  take-by-kind-bounded n to sender (frames.Cancel asked) k f = take-cancel-bounded script n asked k f.says
+
   -- A node that takes a frame stays bounded, and so is what it sends.
   pub take-turn-bounded : (n : Node) (to sender : ℕ) (frame : Frame) → NodeIsBounded script n
-      → FrameIsBounded script to sender frame → Bounded (take_by_kind script n sender frame)
-  take-turn-bounded n to sender (frames.Ask ticket pid call) k f =
-      take-ask-bounded n sender ticket pid call k f.sender_is
-  take-turn-bounded n to sender (frames.Request ticket pid call) k f =
-      take-request-bounded n sender ticket pid call k f.sender_is
-  take-turn-bounded n to sender (frames.Forward asked) k f = take-forward-bounded n sender asked k f.says
-  take-turn-bounded n to sender (frames.Bounce asked) k f = take-bounce-bounded n sender asked k f.says
-  take-turn-bounded n to sender (frames.Answer ticket reply) k f =
-      take-answer-bounded n sender ticket reply k f.sender_is
-  take-turn-bounded n to sender (frames.NotOwner ticket) k f = take-not-owner-bounded n ticket k
-  take-turn-bounded n to sender (frames.LeaseAsk kind) k f = take-lease-ask-bounded n sender kind k f.sender_is
-  take-turn-bounded n to sender (frames.Lease kind first) k f = take-lease-bounded n sender kind first k
-  take-turn-bounded n to sender (frames.Placed name node) k f = take-placed-bounded n sender name node k f.says
-  take-turn-bounded n to sender (frames.Checkpoint pid parent deed vars) k f =
-      take-checkpoint-bounded n sender pid parent deed vars k f.sender_is
-  take-turn-bounded n to sender (frames.Suggest name node) k f =
-      take-suggest-bounded n sender name node k f.sender_is f.says
-  take-turn-bounded n to sender (frames.Recall name) k f = take-recall-bounded n sender name k
-  take-turn-bounded n to sender (frames.GiveBack deed) k f = take-give-back-bounded n sender deed k
-  take-turn-bounded n to sender (frames.Grant deed) k f = take-grant-bounded n sender deed k
-  take-turn-bounded n to sender (frames.Leaving pid parent parent_node) k f =
-      take-leaving-bounded n sender pid parent parent_node k f.sender_is f.says
-  take-turn-bounded n to sender frames.RecallAll k f = take-recall-all-bounded n sender k
-  take-turn-bounded n to sender (frames.Left parcel) k f = take-left-bounded n sender parcel k
-  take-turn-bounded n to sender (frames.ExitTo parcel) k f = take-exit-bounded n sender parcel k
+      → FrameIsBounded script to sender frame → Bounded (take_by_rules script n sender frame)
+  take-turn-bounded n to sender frame k f =
+      of-map (StepIsBounded script) (take_by_kind script n sender frame) (strike script)
+      (λ s is. strike-bounded script s
+      (of-some (StepIsBounded script) (take_by_kind script n sender frame) s
+      (take-by-kind-bounded n to sender frame k f) is))
 
   -- So does one of a sound script that starts a call.
   pub run-turn-bounded : IsSoundScript script → (n : Node) → NodeIsBounded script n → Bounded (run script n)

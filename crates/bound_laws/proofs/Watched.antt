@@ -1,16 +1,15 @@
 -- Changes of watches leave each watch over what its node owns.
-use Rattle.std.proofs.Common.{◌≡◌, ◌⊎◌, ℕ, ◌||◌, nat_eq, Some, None, unwrap_or, refl, ap, ◌∙◌, inl, inr}
-use Rattle.std.proofs.lemmas.Bool.{cases_eq}
+use Rattle.std.proofs.Common.{◌≡◌, ◌⊎◌, ℕ, ◌||◌, nat_eq, List, [], ◌∷◌, Some, None, unwrap_or, refl, ap, ◌∙◌, inl, inr}
 use Rattle.pico_base.specs.declared.numbers.Name.{Name}
 use Rattle.pico_base.specs.declared.numbers.Name.TheVariants.{Proc, Msg, Sem}
-use Rattle.number_maps.specs.Maps.{Numbered, get, without}
-use Rattle.number_maps.proofs.LookUps.{get-without-other, get-without-same}
 use Rattle.kernel_laws.proofs.Plain.{by_test}
 use Rattle.entry_laws.proofs.Names.{get-put-other-name, get-put-same-name, name-cases}
 use Rattle.migrate.specs.Watching.{Watching, run_with, watching_after, watching_anew}
-use Rattle.node_model.specs.Kinds.{Named, get_named, none_named, put_named, without_named}
-use Rattle.node_model.specs.Watches.{Watches, unwatch, watch_over, with_read}
+use Rattle.node_model.specs.Kinds.{get_named, none_named, put_named, without_named}
+use Rattle.node_model.specs.Watches.{Watches, unwatch, watch_over, with_read, with_reads}
 use Rattle.route_laws.specs.Watching.{AreWatchesOf}
+use Rattle.bound_laws.proofs.Tables.{get-without-named}
+use Rattle.world_model.specs.Starting.{run}
 
 -- a name that isn't watched is watched anew
 pub none-watched : (owner : ℕ) → AreWatchesOf owner none_named
@@ -43,6 +42,14 @@ read-watched owner watches name reader all =
     watch-put owner watches name (watching_after (watch_over watches owner name) reader) all
     (owner-stays (watch_over watches owner name) reader ∙ all name)
 
+-- and so are several, one after another
+pub reads-watched : (owner : ℕ) (watches : Watches) (name : Name) (readers : List ℕ) → AreWatchesOf owner watches
+    → AreWatchesOf owner (with_reads watches owner name readers)
+reads-watched owner watches name [] all = all
+reads-watched owner watches name (reader ∷ readers) all =
+    reads-watched owner (with_read watches owner name reader) name readers
+    (read-watched owner watches name reader all)
+
 without-watch : (owner : ℕ) (watches : Watches) (name other : Name) → AreWatchesOf owner watches
     → (get_named (without_named watches name) other ≡ None)
     ⊎ (get_named (without_named watches name) other ≡ get_named watches other)
@@ -50,26 +57,6 @@ without-watch : (owner : ℕ) (watches : Watches) (name other : Name) → AreWat
 without-watch owner watches name other all (inl none) = ap (λ o. (unwrap_or o (watching_anew owner)).owner) none
 without-watch owner watches name other all (inr same) =
     ap (λ o. (unwrap_or o (watching_anew owner)).owner) same ∙ all other
-
-get-without : {V : Type 0} (m : Numbered V) (k q : ℕ)
-    → (get (without m k) q ≡ None) ⊎ (get (without m k) q ≡ get m q)
-get-without m k q =
-    elim (cases_eq q k) [
-      | inl same ↦ inl (ap (get (without m k)) same ∙ get-without-same m k)
-      | inr other ↦ inr (get-without-other m k q other)
-    ]
-
-get-without-named : {V : Type 0} (m : Named V) (name other : Name)
-    → (get_named (without_named m name) other ≡ None) ⊎ (get_named (without_named m name) other ≡ get_named m other)
-get-without-named m (Proc k) (Proc q) = get-without m.processes k q
-get-without-named m (Msg k) (Msg q) = get-without m.queues k q
-get-without-named m (Sem k) (Sem q) = get-without m.sets k q
-get-without-named m (Proc k) (Msg q) = inr refl
-get-without-named m (Proc k) (Sem q) = inr refl
-get-without-named m (Msg k) (Proc q) = inr refl
-get-without-named m (Msg k) (Sem q) = inr refl
-get-without-named m (Sem k) (Proc q) = inr refl
-get-without-named m (Sem k) (Msg q) = inr refl
 
 -- a watch is gone
 pub unwatched : (owner : ℕ) (watches : Watches) (name : Name) → AreWatchesOf owner watches

@@ -12,9 +12,9 @@ use Rattle.node_model.specs.declared.held.Held.{Held}
 use Rattle.world_model.specs.Node.{Node}
 use Rattle.world_model.specs.Step.{Step, step_to}
 use Rattle.world_model.specs.Starting.{run}
-use Rattle.world_model.specs.Turn.{take_by_kind, take_frame}
-use Rattle.world_laws.proofs.ByRules.{taken-by-kind}
-use Rattle.world_model.specs.World.{IsNode, World, after_turn, is_enabled, node_count, runs_at, step, stream, world_after}
+use Rattle.world_model.specs.Turn.{take_frame, take_by_rules}
+use Rattle.world_laws.proofs.ByRules.{taken-by-rules}
+use Rattle.world_model.specs.World.{IsNode, World, after_turn, is_enabled, node_count, runs_at, step, world_after}
 use Rattle.world_laws.specs.Invariant.{IsShaped}
 use Rattle.world_laws.specs.Sights.{node_of}
 use Rattle.world_laws.proofs.Changes.{Changes, frames_if, sent, taken}
@@ -187,10 +187,10 @@ module _ (script : Script) where
         in let found =
         after-some (world_without w p q t.rest) next p (take_frame script (node_of w p) q t.frame) after
         in let b : StepIsBounded script found.0 =
-        of-some (StepIsBounded script) (take_by_kind script (node_of w p) q t.frame) found.0
+        of-some (StepIsBounded script) (take_by_rules script (node_of w p) q t.frame) found.0
         (take-turn-bounded script (node_of w p) p q t.frame (k.bounded.nodes p h.low h.high)
         (head-is-bounded w [] p q t.frame t.rest h k.bounded))
-        (taken-by-kind script (node_of w p) q t.frame found.0 found.1)
+        (taken-by-rules script (node_of w p) q t.frame found.0 found.1)
         in subst (IsShapedAndBounded script) (sym found.2)
         (by-changes w (world_after (world_without w p q t.rest) p found.0) p found.0 ((q, t.frame) ∷ [])
         (changes-by-take script w k.shape p q t.frame t.rest found.0 h (to-nodes (found.0).sends b.sends)) own

@@ -13,8 +13,9 @@ use Rattle.number_maps.specs.Rising.{IsRising}
 use Rattle.kernel_model.specs.SemaphoreSet.{SemaphoreSet, new_set}
 use Rattle.node_model.specs.declared.held.Held.{Held}
 use Rattle.node_model.specs.declared.held.Held.TheVariants.{Request, Ending}
+use Rattle.node_model.specs.Bodies.{Body, Deeds, waiters_of}
 use Rattle.node_model.specs.Directory.{Directory, Place, At, Coming, place_of}
-use Rattle.node_model.specs.Kinds.{Named, for_kind}
+use Rattle.node_model.specs.Kinds.{Named, for_kind, get_named}
 use Rattle.world_model.specs.Node.{Node}
 use Rattle.world_model.specs.Step.{Step}
 use Rattle.world_model.specs.World.{IsNode, World, node_count}
@@ -30,7 +31,19 @@ pub record AllRise {V : Type 0} (m : Named V) : Type 0 where
 
 -- ---- what a node has
 
--- a call is of a node; a parcel says nothing of nodes
+-- whoever waits at a queue or a set that is held waits with a call of a node
+abbrev pub WaitersAreOfNodes : Script → Body → Type 0
+WaitersAreOfNodes script body = AllByRecursion (λ w. IsNode script w.caller) (waiters_of body)
+
+abbrev pub HeldNamesNodes : Script → Option Body → Type 0
+HeldNamesNodes script None = Unit {0}
+HeldNamesNodes script (Some body) = WaitersAreOfNodes script body
+
+pub record DeedsAreBounded (script : Script) (deeds : Deeds) : Type 0 where
+  pub rise : AllRise deeds
+  pub waiters : (name : Name) → HeldNamesNodes script (get_named deeds name)
+
+-- a call, or the withdrawal of one, is of a node; a parcel says nothing of nodes
 abbrev pub ItemIsOfNode : Script → Held → Type 0
 ItemIsOfNode script (Request asked) = IsNode script asked.caller
 ItemIsOfNode script (Ending parcel) = Unit {0}
@@ -59,7 +72,7 @@ pub record NodeIsBounded (script : Script) (n : Node) : Type 0 where
   pub fork : (block : ℕ) → n.caller.under_way ≡ Some (calls.Fork block) → IsNode script block
   pub size : (count : ℕ) (create excl : Bool) → n.caller.under_way ≡ Some (calls.SemGet None count create excl)
       → (set : SemaphoreSet) × (new_set count ≡ Ok set)
-  pub deeds : AllRise n.deeds
+  pub deeds : DeedsAreBounded script n.deeds
   -- the node owns what it watches
   pub watches : AreWatchesOf n.number n.watches
   pub cache : AllByRecursion (λ e. IsNode script e.1) n.cache
@@ -76,6 +89,7 @@ FrameNamesNodes script (frames.Bounce asked) = IsNode script asked.caller
 FrameNamesNodes script (frames.Placed name node) = IsNode script node
 FrameNamesNodes script (frames.Suggest name node) = IsNode script node
 FrameNamesNodes script (frames.Leaving pid parent parent_node) = IsNode script parent_node
+FrameNamesNodes script (frames.Cancel asked) = IsNode script asked.caller
 FrameNamesNodes script frame = Unit {0}
 
 -- from a node, and to one

@@ -13,7 +13,7 @@ use Rattle.number_maps.proofs.Rising.{Above, above-first, rising-rest}
 use Rattle.kernel_laws.proofs.Members.{contains-cases, contains-filter, contains-first, contains-later, contains-none}
 use Rattle.kernel_laws.proofs.Plain.{from_some}
 use Rattle.entry_laws.specs.Entering.{is_used_name}
-use Rattle.node_model.specs.Bodies.{Body, body_in}
+use Rattle.node_model.specs.Bodies.{Body}
 use Rattle.node_model.specs.Parcels.{pack_all}
 use Rattle.node_model.specs.Spelling.{pack}
 use Rattle.world_model.specs.Census.{brings}
@@ -68,7 +68,7 @@ module _ (script : Script) (w : World) (b : Beside) (holds : Holds script w [] b
   pub record Brought (name : Name) (to sender : ℕ) (f : Frame) : Type 0 where
     pub used : is_used_name b.kernel name ≡ true
     pub in_stream : is_stream_of (forker script) (b.deed name) to sender ≡ true
-    pub bringer : IsBringer b.pids name (body_in b.kernel name) (b.deed name) f
+    pub bringer : IsBringer b.pids name (b.body name) (b.deed name) f
 
   used-where-made : (name : Name) (t : Bool) → is_used_name b.kernel name ≡ t
       → (b.deed name ≡ Unmade → ⊥) → is_used_name b.kernel name ≡ true
@@ -79,7 +79,7 @@ module _ (script : Script) (w : World) (b : Beside) (holds : Holds script w [] b
 
   brought-by : (name : Name) (to sender : ℕ) (f : Frame) (t : Bool)
       → is_stream_of (forker script) (b.deed name) to sender ≡ t
-      → OneIf t (IsBringer b.pids name (body_in b.kernel name) (b.deed name))
+      → OneIf t (IsBringer b.pids name (b.body name) (b.deed name))
       (filter (brings name) (frames_to w to sender))
       → Contains (filter (brings name) (frames_to w to sender)) f → Brought name to sender f
   brought-by name to sender f false is one there = absurd (contains-none f (subst (λ fs. Contains fs f) one there))
@@ -89,7 +89,7 @@ module _ (script : Script) (w : World) (b : Beside) (holds : Holds script w [] b
           used = used-where-made name (is_used_name b.kernel name) refl
               (λ unmade. false≢true (sym (ap (λ place. is_stream_of (forker script) place to sender) unmade) ∙ is));
           in_stream = is;
-          bringer = subst (IsBringer b.pids name (body_in b.kernel name) (b.deed name)) same one.holds;
+          bringer = subst (IsBringer b.pids name (b.body name) (b.deed name)) same one.holds;
         }
         | inr later ↦ absurd (contains-none f later)
       ]

@@ -11,7 +11,7 @@ use Rattle.rpc_frame.specs.declared.asked.Asked.{Asked}
 use Rattle.rpc_frame.specs.declared.deed.Parcel.{Parcel}
 use Rattle.rpc_frame.specs.declared.frame.Frame.{Frame}
 use Rattle.rpc_frame.specs.declared.frame.Frame.TheVariants as frames
-use Rattle.kernel_laws.proofs.Members.{contains-filter}
+use Rattle.kernel_laws.proofs.Members.{contains-filter, contains-filtered, contains-first}
 use Rattle.kernel_laws.proofs.Plain.{from_some, not_some}
 use Rattle.entry_laws.proofs.Names.{same-name}
 use Rattle.node_model.specs.declared.held.Held.{Held}
@@ -219,7 +219,7 @@ module _ (script : Script) (w : World) (b : Beside) (holds : Holds script w [] b
 
   -- where the call isn't held for a name, no request of the node is
   pub held-none : (name : Name) → is_held_at place name ≡ false → (other : Asked)
-      → Contains (held_for (directory_of w) name) (Request other) → nat_eq other.caller p ≡ true → ⊥
+      → Contains (held_for (directory_of w) name) (Request other) → is_item_about p (Request other) ≡ true → ⊥
   held-none name none other at is =
       false≢true
       (sym none
@@ -227,10 +227,19 @@ module _ (script : Script) (w : World) (b : Beside) (holds : Holds script w [] b
       (subst (λ items. Contains items (Request other)) (let h = there in h.held_for_names name)
       (contains-filter (is_item_about p) (held_for (directory_of w) name) (Request other) at is))).0)
 
+  -- what is held of the call is no withdrawal
+  pub held-is-about : (name : Name) → is_held_at place name ≡ true → is_item_about p (Request asked) ≡ true
+  held-is-about name at =
+      let listed : filter (is_item_about p) (held_for (directory_of w) name) ≡ Request asked ∷ [] =
+      (let h = there in h.held_for_names name) ∙ ap (λ t. only_if t (Request asked)) at
+      in (contains-filtered (is_item_about p) (held_for (directory_of w) name) (Request asked)
+      (subst (λ items. Contains items (Request asked)) (sym listed) (contains-first (Request asked) []))).1
+
   -- what is about the call is counted at one item, where it is held
   module _ (test : Held → Bool)
       (of-it : (name : Name) (item : Held) → Contains (held_for (directory_of w) name) item → test item ≡ true
-      → is_item_about p item ≡ true) (passes : test (Request asked) ≡ true) where
+      → is_item_about p item ≡ true)
+      (passes : (name : Name) → is_held_at place name ≡ true → test (Request asked) ≡ true) where
     not-passed-item : (name : Name) (item : Held) → Contains (held_for (directory_of w) name) item
         → is_item_about p item ≡ false → test item ≡ false
     not-passed-item name item at not-about = by-test (test item) refl
@@ -244,11 +253,11 @@ module _ (script : Script) (w : World) (b : Beside) (holds : Holds script w [] b
         count-among test (is_item_about p) (held_for (directory_of w) name) (λ item at. not-passed-item name item at)
         ∙ ap (count_by test) (let h = there in h.held_for_names name)
         ∙ count-only test (is_held_at place name) (Request asked)
-        ∙ by-test (is_held_at place name)
+        ∙ by-test (is_held_at place name) refl
       where
-        by-test : (t : Bool) → one_if (t && test (Request asked)) ≡ one_if t
-        by-test true = ap (λ s. let m : ℕ = one_if s in m) passes
-        by-test false = refl
+        by-test : (t : Bool) → is_held_at place name ≡ t → one_if (t && test (Request asked)) ≡ one_if t
+        by-test true e = ap (λ s. let m : ℕ = one_if s in m) (passes name e)
+        by-test false e = refl
 
     pub items-counted-none : ((name : Name) → is_held_at place name ≡ false) → items_that w test ≡ 0
     items-counted-none none =

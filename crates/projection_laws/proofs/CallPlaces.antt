@@ -15,7 +15,7 @@ use Rattle.node_model.specs.Leases.{takes_number}
 use Rattle.world_model.specs.Census.{one_if}
 use Rattle.world_model.specs.Lives.{is_end}
 use Rattle.world_laws.specs.Callers.{frame_at, is_call_of_kind, is_end_place, is_held_at, is_in_stream, may_be_in, only_if}
-use Rattle.world_laws.specs.Places.{AsksLease, CallPlace, Ends, HasLease, Idle, InAnswer, InAsk, InBounce, InNotOwner, InRequest, IsHeld, IsInHand, SentByPlace, SentByRange}
+use Rattle.world_laws.specs.Places.{AsksLease, CallPlace, Ends, HasLease, Idle, InAnswer, InAsk, InBounce, InNotOwner, InRequest, IsHeld, IsInHand, Parked, SentByPlace, SentByRange, Waits}
 use Rattle.projection_laws.specs.Projection.{IsOf, has_call, is_answer_to, is_parcel_frame}
 
 -- ---- in which stream
@@ -26,6 +26,8 @@ is_sent Idle = false
 is_sent (IsHeld name) = false
 is_sent IsInHand = false
 is_sent Ends = false
+is_sent Parked = false
+is_sent (Waits name) = false
 is_sent place = true
 
 -- what is in the stream is the reply
@@ -70,6 +72,8 @@ stream-as (IsHeld name) p to sender = refl
 stream-as IsInHand p to sender = refl
 stream-as (InAnswer h reply) p to sender = refl
 stream-as Ends p to sender = refl
+stream-as Parked p to sender = refl
+stream-as (Waits name) p to sender = refl
 
 -- ---- the frame there
 
@@ -89,6 +93,8 @@ frame-has-call Idle p pid asked own sent other = absurd (false≢true sent)
 frame-has-call (IsHeld name) p pid asked own sent other = absurd (false≢true sent)
 frame-has-call IsInHand p pid asked own sent other = absurd (false≢true sent)
 frame-has-call Ends p pid asked own sent other = absurd (false≢true sent)
+frame-has-call Parked p pid asked own sent other = absurd (false≢true sent)
+frame-has-call (Waits name) p pid asked own sent other = absurd (false≢true sent)
 
 -- which has no call
 pub answer-has-none : (place : CallPlace) (p pid to sender : ℕ) (asked : Asked) → is_answer place ≡ true
@@ -112,6 +118,8 @@ frame-answers (InBounce h) p asked = refl
 frame-answers (IsHeld name) p asked = refl
 frame-answers IsInHand p asked = refl
 frame-answers Ends p asked = refl
+frame-answers Parked p asked = refl
+frame-answers (Waits name) p asked = refl
 
 kind-takes : (kind : Kind) (home : Home) (call : Call) → is_call_of_kind kind home call ≡ true
     → takes_number kind call ≡ true
@@ -135,6 +143,8 @@ frame-is-of Idle p pid to sender asked home may has = absurd (false≢true has)
 frame-is-of (IsHeld name) p pid to sender asked home may has = absurd (false≢true has)
 frame-is-of IsInHand p pid to sender asked home may has = absurd (false≢true has)
 frame-is-of Ends p pid to sender asked home may has = absurd (false≢true has)
+frame-is-of Parked p pid to sender asked home may has = absurd (false≢true has)
+frame-is-of (Waits name) p pid to sender asked home may has = absurd (false≢true has)
 
 -- ---- one, or none
 
@@ -175,6 +185,8 @@ parent-place (InBounce h) call e = absurd (false≢true e)
 parent-place (IsHeld name) call e = absurd (false≢true e)
 parent-place IsInHand call e = absurd (false≢true e)
 parent-place (InAnswer h reply) call e = absurd (false≢true e)
+parent-place Parked call e = absurd (false≢true e)
+parent-place (Waits name) call e = absurd (false≢true e)
 
 -- so a call that is elsewhere ends none
 pub no-end : (place : CallPlace) (pid : ℕ) (call : Call) → may_be_in place (home_of pid call) call ≡ true
@@ -200,6 +212,8 @@ frame-no-parcel (IsHeld name) asked = refl
 frame-no-parcel IsInHand asked = refl
 frame-no-parcel (InAnswer h reply) asked = refl
 frame-no-parcel Ends asked = refl
+frame-no-parcel Parked asked = refl
+frame-no-parcel (Waits name) asked = refl
 
 -- it is in a stream only where it doesn't end a process
 pub sent-is-busy : (place : CallPlace) (p to sender : ℕ) → is_in_stream place p to sender ≡ true

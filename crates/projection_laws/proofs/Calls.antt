@@ -1,7 +1,8 @@
 -- Each call under way is in one place until it is carried out, and then its reply is.
 use Rattle.std.proofs.Common.{◌≡◌, ◌⊎◌, ℕ, ◌<◌, ◌≤◌, Bool, true, false, ◌&&◌, [], Option, Some, None, option_and_then, Contains, refl, ap, sym, subst, ◌∙◌, inl, inr, arith}
-use Rattle.std.proofs.lemmas.Bool.{eq-eqb, eqb-true, false≢true}
+use Rattle.std.proofs.lemmas.Bool.{eqb-true, false≢true}
 use Rattle.pico_base.specs.declared.call.Call.{Call}
+use Rattle.pico_base.specs.declared.call.Home.{Home}
 use Rattle.pico_base.specs.declared.numbers.Name.{Name}
 use Rattle.pico_base.specs.declared.numbers.Name.TheVariants.{Proc}
 use Rattle.pico_base.specs.declared.reply.Reply.{Reply}
@@ -13,49 +14,50 @@ use Rattle.rpc_frame.specs.declared.frame.Frame.{Frame}
 use Rattle.rpc_frame.specs.declared.frame.Frame.TheVariants as frames
 use Rattle.kernel_laws.proofs.People.{from-living}
 use Rattle.kernel_laws.proofs.Plain.{from_some, not_some}
-use Rattle.kernel_model.specs.Fitting.{FitsFrom, Place, opening_places, place_after}
-use Rattle.kernel_model.specs.Kernel.{Process, alive_in, living_at}
+use Rattle.kernel_model.specs.Kernel.{Process, alive_in, living_at as plain_living_at}
 use Rattle.kernel_model.specs.Kernel as kernel
 use Rattle.kernel_model.specs.Row.{Alive}
-use Rattle.number_maps.specs.Maps.{get}
 use Rattle.entry_laws.specs.Entering.{HasRow}
 use Rattle.entry_laws.proofs.Bodies.{body-living}
 use Rattle.node_model.specs.declared.held.Held.{Held}
 use Rattle.node_model.specs.declared.held.Held.TheVariants.{Request, Ending}
-use Rattle.node_model.specs.Bodies.{Body, Deeds, Living as LivingBody, body_in}
-use Rattle.node_model.specs.Caller.{caller_place}
+use Rattle.waiting_model.specs.Calls.{may_park}
+use Rattle.waiting_model.specs.Kernel.{living_at}
+use Rattle.node_model.specs.Bodies.{Body, Deeds, Living as LivingBody, bare}
+use Rattle.node_model.specs.Carrying.{is_own_home}
 use Rattle.node_model.specs.Directory.{held_for}
 use Rattle.node_model.specs.Kinds.{get_named, none_named}
 use Rattle.world_model.specs.Census.{one_if}
 use Rattle.world_model.specs.Lives.{is_end}
 use Rattle.world_model.specs.Node.{Leaving, Left, Living, Node, Over, Stage, Unborn, is_leaving_stage}
 use Rattle.world_model.specs.World.{World, node_count}
-use Rattle.world_laws.specs.Callers.{HasCall, HasEnded, IsJustThere, IsMade as IsMadeAt, IsSoFar, IsToBeMade as IsToBeMadeAt, asked_of, call_sight, frame_at, is_about, is_end_place, is_end_stage, is_held_at, is_in_hand, is_item_about, may_be_in, only_if}
+use Rattle.world_laws.specs.Callers.{HasCall, HasEnded, IsJustThere, IsSoFar, IsToBeMade as IsToBeMadeAt, asked_of, call_sight, frame_at, is_about, is_end_place, is_end_stage, is_held_at, is_in_hand, is_item_about, is_on, is_waiting_at, may_be_in, only_if}
+use Rattle.world_laws.specs.Deeds.{DeedsAreRead}
 use Rattle.world_laws.specs.Families.{FamilyHolds, HoldsIn, HoldsRow, IsAwaited, IsItsOwn, IsWhereFor, NodeHolds, RestsBelow, checkpoints_to}
 use Rattle.world_laws.specs.Invariant.{Holds, process_deed}
 use Rattle.world_laws.specs.Names.{HasDeed, NameHolds, forker, held_as, held_at, is_kept_for, name_sight, node_in}
-use Rattle.world_laws.specs.Places.{AsksLease, Beside, CallPlace, DeedPlace, Ends, HasLease, Idle, InAnswer, InAsk, InBounce, InCheckpoint, InExitTo, InGiveBack, InGrant, InHand, InKept, InLeft, InNotOwner, InRequest, InTable, IsHeld, IsInHand, SentByPlace, SentByRange, Unmade}
+use Rattle.world_laws.specs.Places.{AsksLease, Beside, CallPlace, DeedPlace, Ends, HasLease, Idle, InAnswer, InAsk, InBounce, InCheckpoint, InExitTo, InGiveBack, InGrant, InHand, InKept, InLeft, InNotOwner, InRequest, InTable, IsHeld, IsInHand, Parked, SentByPlace, SentByRange, Unmade, Waits}
 use Rattle.world_laws.specs.Sights.{directory_of, frames_to, is_born_in, node_of, stage_of}
 use Rattle.world_laws.specs.Ways.{IsParcelIn, kept as kept_in, under_way_of}
 use Rattle.world_laws.proofs.NameFacts.{IsHeldAt, held-here, held-there as held-as-there}
+use Rattle.bound_laws.specs.Bounded.{IsBounded}
 use Rattle.rest_laws.proofs.Census.{is_way}
+use Rattle.rest_laws.proofs.Nodes.{is_waiting_place}
 use Rattle.rest_laws.proofs.Senders.{carrier}
 use Rattle.rest_laws.proofs.Shaped.{unborn-has-nothing}
-use Rattle.projection_laws.specs.Projection.{HasComeTo, HasOneAnswer, IsInOnePlace, IsMade, IsToBeMade, IsUnderWay, answered, ended, frames_that, has_call, item_has_call, items_that, places_with, waits}
-use Rattle.projection_laws.proofs.CallCounts.{answer-is, answers-counted, call-frame, calls-hold, ends-by-place, forked, frame-of-call, frames-counted, has-call, item-of-call, items-counted-none, items-counted-one, leaves-by-end, node-holds, not-an-end, own-number, parcel-is, pid-is}
+use Rattle.projection_laws.specs.Projection as page
+use Rattle.projection_laws.specs.Projection.{HasOneAnswer, IsInNoPlace, IsInOnePlace, IsToBeMade, IsUnderWay, WaitsSomewhere, frames_that, has_call, item_has_call, items_that, places_with, waiting_places}
+use Rattle.projection_laws.proofs.CallCounts.{answer-is, answers-counted, call-frame, calls-hold, ends-by-place, forked, frame-of-call, frames-counted, has-call, held-is-about, item-of-call, items-counted-none, items-counted-one, leaves-by-end, node-holds, not-an-end, own-number, parcel-is, pid-is}
 use Rattle.projection_laws.proofs.CallPlaces.{answer-has-none, call_from, call_to, frame-has-call, is_answer, is_sent}
 use Rattle.projection_laws.proofs.Deeds.{IsInParcel}
 use Rattle.projection_laws.proofs.Ends as ends
 use Rattle.projection_laws.proofs.Families.{not-in-hand}
+use Rattle.projection_laws.proofs.HowFar as far
 use Rattle.projection_laws.proofs.Parcels.{parcel-of-frame, parcel-of-item}
 use Rattle.projection_laws.proofs.Views.{held-is, on-way}
+use Rattle.projection_laws.proofs.Waiters.{parked-here, second-of, waits-nowhere, waits-there}
 
 -- ---- places
-
-abbrev is_nowhere_yet : CallPlace → Bool
-is_nowhere_yet Idle = true
-is_nowhere_yet IsInHand = true
-is_nowhere_yet place = false
 
 sent-not-held : (place : CallPlace) → is_sent place ≡ true → (name : Name) → is_held_at place name ≡ false
 sent-not-held (IsHeld other) sent name = absurd (false≢true sent)
@@ -71,6 +73,37 @@ both-true s t e f = rw (e, f) refl
 and-none : (s t : Bool) → t ≡ false → (s && t) ≡ false
 and-none true t e = e
 and-none false t e = refl
+
+not-waiting-at : (place : CallPlace) (name : Name) → is_waiting_place place ≡ false → is_waiting_at place name ≡ false
+not-waiting-at (Waits other) name busy = absurd (false≢true (sym busy))
+not-waiting-at place name busy = refl
+
+waits-are-busy : (place : CallPlace) → is_waiting_place place ≡ true → is_end_place place ≡ false
+waits-are-busy Parked waits = refl
+waits-are-busy (Waits name) waits = refl
+waits-are-busy place waits = absurd (false≢true waits)
+
+waits-unsent : (place : CallPlace) → is_waiting_place place ≡ true → is_sent place ≡ false
+waits-unsent Parked waits = refl
+waits-unsent (Waits name) waits = refl
+waits-unsent place waits = absurd (false≢true waits)
+
+waits-unanswered : (place : CallPlace) → is_waiting_place place ≡ true → is_answer place ≡ false
+waits-unanswered Parked waits = refl
+waits-unanswered (Waits name) waits = refl
+waits-unanswered place waits = absurd (false≢true waits)
+
+waits-unheld : (place : CallPlace) (name : Name) → is_waiting_place place ≡ true → is_held_at place name ≡ false
+waits-unheld Parked name waits = refl
+waits-unheld (Waits other) name waits = refl
+waits-unheld place name waits = absurd (false≢true waits)
+
+-- what waits may park, and is to be made
+waits-parks : (place : CallPlace) (home : Home) (call : Call) → is_waiting_place place ≡ true
+    → may_be_in place home call ≡ true → may_park call ≡ true
+waits-parks Parked home call waits may = second-of (is_own_home home) (may_park call) may
+waits-parks (Waits name) home call waits may = second-of (is_on name home) (may_park call) may
+waits-parks place home call waits may = absurd (false≢true waits)
 
 not-leaving : (s : Stage) → is_end_stage s ≡ false → is_leaving_stage s ≡ false
 not-leaving Leaving e = absurd (false≢true (sym e))
@@ -88,8 +121,9 @@ nothing-is-one false x e h = false≢true e
 
 -- ---- a call under way
 
-module _ (script : Script) (w : World) (b : Beside) (holds : Holds script w [] b) (p : ℕ) (low : 1 ≤ p)
-    (high : p ≤ node_count script) (call : Call) (under : under_way_of w p ≡ Some call) where
+module _ (script : Script) (w : World) (b : Beside) (holds : Holds script w [] b) (bounded : IsBounded script w [])
+    (reads : DeedsAreRead b.kernel b.body) (p : ℕ) (low : 1 ≤ p) (high : p ≤ node_count script) (call : Call)
+    (under : under_way_of w p ≡ Some call) where
   abbrev n : Node
   n = node_of w p
 
@@ -108,28 +142,18 @@ module _ (script : Script) (w : World) (b : Beside) (holds : Holds script w [] b
   stage-is : is_end_place place ≡ is_end_stage n.stage
   stage-is = let c = calls-hold script w b holds p low high call under in c.ends
 
-  -- how far the journal is, in the page's words
-  has-come : (at : Place) → get b.places (b.pids p) ≡ Some at → HasComeTo w n.pid at
-  has-come at is =
-      let history = holds.history
-      in let shape = holds.shape
-      in record {
-        places = b.places;
-        fits = subst (λ s. FitsFrom s (opening_places s) w.journal b.places) (sym shape.of_script) history.fits;
-        there = ap (get b.places) its-pid ∙ is;
-      }
+  -- ---- how far it is
 
-  to-be-made : IsToBeMadeAt script p (call_sight w [] b p) call → IsToBeMade w p n
-  to-be-made m =
-      let shape = holds.shape
-      in has-come (caller_place w.script p n.caller)
-      (m.there ∙ ap (λ s. Some (caller_place s p n.caller)) (sym shape.of_script))
+  abbrev IsToBe : Type 0
+  IsToBe = IsToBeMadeAt script p (call_sight w [] b p) call
 
-  made : (reply : Reply) → IsMadeAt script p (call_sight w [] b p) call reply → IsMade w p n call reply
-  made reply m =
-      let shape = holds.shape
-      in has-come (place_after (caller_place w.script p n.caller) call (Some reply))
-      (m.there ∙ ap (λ s. Some (place_after (caller_place s p n.caller) call (Some reply))) (sym shape.of_script))
+  to-be-made : is_waiting_place place ≡ false → IsToBe → IsToBeMade w p n
+  to-be-made busy m = far.to-be-made script w b holds p low high call under busy m
+
+  -- at no name it isn't among those who wait
+  nowhere-waiting : is_waiting_place place ≡ false → waiting_places w p ≡ 0
+  nowhere-waiting busy =
+      waits-nowhere script w b holds bounded reads p low high call under (λ name. not-waiting-at place name busy)
 
   -- it is in one place, where it is counted once and there is no reply
   in-one : places_with w p n ≡ 1 → is_answer place ≡ false → IsInOnePlace w p n call
@@ -174,8 +198,8 @@ module _ (script : Script) (w : World) (b : Beside) (holds : Holds script w [] b
         ≡ one_if (is_sent place && has_call p n.pid (call_to place p) (call_from place p) (frame_at place asked))
     frames-are = frames-counted script w b holds p low high call under (has_call p n.pid) frame-of-it
 
-    passes : item_has_call p n.pid (Request asked) ≡ true
-    passes = eq-eqb n.number p (own-number script w b holds p low high call under)
+    passes : (name : Name) → is_held_at place name ≡ true → item_has_call p n.pid (Request asked) ≡ true
+    passes name at = held-is-about script w b holds p low high call under name at
 
     no-stage : one_if (is_leaving_stage n.stage) ≡ 0
     no-stage = ap one_if (not-leaving n.stage working)
@@ -221,6 +245,32 @@ module _ (script : Script) (w : World) (b : Beside) (holds : Holds script w [] b
               (on-way script w b holds p sender (frames.Answer ticket other) is);
           nowhere = omega (arith, first, second, third);
         }
+
+  -- ---- one that waits
+
+  module _ (waits : is_waiting_place place ≡ true) where
+    parks : may_park call ≡ true
+    parks = waits-parks place (home_of n.pid call) call waits has.home
+
+    -- it is in no frame, in no list, and has no reply
+    in-no-place : IsInNoPlace w p n
+    in-no-place =
+        let busy = waits-are-busy place waits
+        in let first =
+        frames-are busy
+        ∙ ap (λ t. one_if (t && has_call p n.pid (call_to place p) (call_from place p) (frame_at place asked)))
+        (waits-unsent place waits)
+        in let second = no-items busy (λ name. waits-unheld place name waits)
+        in let third = no-stage busy
+        in record {
+          nowhere = omega (arith, first, second, third);
+          unanswered = answers-counted script w b holds p low high call under
+              ∙ ap one_if (waits-unanswered place waits);
+        }
+
+    is-waiting : IsToBe → WaitsSomewhere w p n call → IsUnderWay w b.whole p n call
+    is-waiting m somewhere =
+        page.parked (far.is-parked script w b holds p low high call under waits m) parks in-no-place somewhere
 
   -- ---- one that ends its process
 
@@ -294,7 +344,7 @@ module _ (script : Script) (w : World) (b : Beside) (holds : Holds script w [] b
 
       not-here : (y : ℕ) → b.deed own ≡ InTable y → y ≡ p → ⊥
       not-here y at node =
-          let body : Body = body_in b.kernel own
+          let body : Body = b.body own
           in let here : held_at w own p ≡ Some body =
           known.tables p ∙ ap (λ d. held_as d body p) at
           ∙ ap (λ z. held_as (InTable z) body p) node ∙ held-here p body
@@ -317,11 +367,11 @@ module _ (script : Script) (w : World) (b : Beside) (holds : Holds script w [] b
       in-parcel (InGiveBack y) at is = absurd is
       in-parcel Unmade at is = absurd is
 
-    living-process : (a : Alive) → living_at b.kernel (b.pids p) ≡ Some a → family.process ≡ kernel.Living a
+    living-process : (a : Alive) → plain_living_at b.kernel (b.pids p) ≡ Some a → family.process ≡ kernel.Living a
     living-process a lives =
         from_some family.process (kernel.Living a) (sym family.is ∙ from-living b.kernel.processes (b.pids p) a lives)
 
-    waits-to-end : (a : Alive) → living_at b.kernel (b.pids p) ≡ Some a → IsInOnePlace w p n call
+    waits-to-end : (a : Alive) → plain_living_at b.kernel (b.pids p) ≡ Some a → IsInOnePlace w p n call
     waits-to-end a lives = by-stage n.stage refl ending
       where
         where-it-is : IsItsOwn p (b.deed own)
@@ -335,7 +385,7 @@ module _ (script : Script) (w : World) (b : Beside) (holds : Holds script w [] b
         by-stage Over e h = absurd (false≢true h)
 
     -- and where it is carried out it is nowhere: the deed is in no parcel of the process
-    module _ (dead : living_at b.kernel (b.pids p) ≡ None) where
+    module _ (dead : plain_living_at b.kernel (b.pids p) ≡ None) where
       below : (v : Process) → family.process ≡ v → IsWhereFor p (b.deed own) v → RestsBelow p (b.deed own)
       below (kernel.Living a) e is =
           not_some a
@@ -353,7 +403,7 @@ module _ (script : Script) (w : World) (b : Beside) (holds : Holds script w [] b
 
       not-its-own : HasNone
       not-its-own parcel at is in_it =
-          let has : HasDeed own (body_in b.kernel own) (b.pids (node_in (b.deed own))) parcel = in_it.has
+          let has : HasDeed own (b.body own) (b.pids (node_in (b.deed own))) parcel = in_it.has
           in let pids = holds.pids
           in let same : p ≡ node_in (b.deed own) =
           pids.apart p (node_in (b.deed own)) (forked script w b holds p low high call under)
@@ -364,10 +414,11 @@ module _ (script : Script) (w : World) (b : Beside) (holds : Holds script w [] b
       not-leaving-now : (s : Stage) → n.stage ≡ s → is_leaving_stage s ≡ false
       not-leaving-now Leaving e =
           let row : HoldsRow n.deeds n.pid = subst (λ s. HoldsIn p n s) e its.holds
-          in let held : IsHeldAt (b.deed own) (body_in b.kernel own) p (LivingBody row.row) =
-          held-as-there (b.deed own) (body_in b.kernel own) p (LivingBody row.row)
+          in let held : IsHeldAt (b.deed own) (b.body own) p (LivingBody row.row) =
+          held-as-there (b.deed own) (b.body own) p (LivingBody row.row)
           (sym (known.tables p) ∙ ap (λ q. get_named n.deeds (Proc q)) (sym its-pid) ∙ row.here)
-          in let r : HasRow b.kernel (b.pids p) row.row = body-living b.kernel (b.pids p) row.row (sym held.body_is)
+          in let r : HasRow b.kernel (b.pids p) row.row =
+          body-living b.kernel (b.pids p) row.row (sym known.parts ∙ ap bare (sym held.body_is))
           in not_some r.alive (sym dead ∙ r.lives)
       not-leaving-now s e = refl
 
@@ -381,43 +432,59 @@ module _ (script : Script) (w : World) (b : Beside) (holds : Holds script w [] b
     ends-it : is_end call ≡ true
     ends-it = ends-by-place script w b holds p low high call under (ap is_end_place at_end)
 
-    at-its-end : IsToBeMadeAt script p (call_sight w [] b p) call ⊎ HasEnded (call_sight w [] b p)
-        → IsUnderWay w b.kernel p n call
-    at-its-end (inl m) = waits (to-be-made m) (waits-to-end m.alive m.lives)
+    busy-end : is_waiting_place place ≡ false
+    busy-end = ap is_waiting_place at_end
+
+    at-its-end : IsToBe ⊎ HasEnded (call_sight w [] b p) → IsUnderWay w b.whole p n call
+    at-its-end (inl m) = page.waits (to-be-made busy-end m) (waits-to-end m.alive m.lives) (nowhere-waiting busy-end)
     at-its-end (inr over) =
-        ended over.last ends-it (has-come over.last over.there) over.over (ap (living_at b.kernel) its-pid ∙ over.dead)
-        (nowhere over.dead) (answers-counted script w b holds p low high call under ∙ ap one_if unanswered)
+        page.ended over.last ends-it
+        (far.over script w b holds p low high call under over.last over.there over.dead) over.over
+        (ap (living_at b.whole) its-pid ∙ far.dead-whole script w b holds (b.pids p) over.dead) (nowhere over.dead)
+        (answers-counted script w b holds p low high call under ∙ ap one_if unanswered)
 
   -- ---- any
 
-  -- Each call under way is in one place until it is carried out, and then its reply is.
-  pub is-under-way : IsUnderWay w b.kernel p n call
+  -- Each call under way is in one place until it is carried out, or parked, and then its reply is.
+  pub is-under-way : IsUnderWay w b.whole p n call
   is-under-way = by-place place refl (has.so_far)
     where
       sent-one : (q : CallPlace) → place ≡ q → is_sent q ≡ true → is_answer q ≡ false → is_end_place q ≡ false
-          → IsToBeMadeAt script p (call_sight w [] b p) call → IsUnderWay w b.kernel p n call
-      sent-one q e sent unanswered busy m =
-          waits (to-be-made m)
+          → is_waiting_place q ≡ false → IsToBe → IsUnderWay w b.whole p n call
+      sent-one q e sent unanswered busy idle m =
+          let not_parked = ap is_waiting_place e ∙ idle
+          in page.waits (to-be-made not_parked m)
           (in-stream (ap is_end_place e ∙ busy) (ap is_sent e ∙ sent) (ap is_answer e ∙ unanswered))
+          (nowhere-waiting not_parked)
 
       by-place : (q : CallPlace) → place ≡ q → IsSoFar script p (call_sight w [] b p) call q
-          → IsUnderWay w b.kernel p n call
+          → IsUnderWay w b.whole p n call
       by-place Idle e m =
           absurd (false≢true (ap (λ c. may_be_in c (home_of n.pid call) call) (sym e) ∙ has.home))
       by-place IsInHand e m =
           let there : IsJustThere p (call_sight w [] b p) asked = has.just_there
           in absurd (nothing-is-one (is_in_hand place) (Request asked) (ap is_in_hand e) there.in_hand)
-      by-place (IsHeld name) e m = waits (to-be-made m) (in-list (ap is_end_place e) name e)
+      by-place (IsHeld name) e m =
+          let not_parked = ap is_waiting_place e
+          in page.waits (to-be-made not_parked m) (in-list (ap is_end_place e) name e) (nowhere-waiting not_parked)
       by-place (InAnswer h reply) e m =
-          answered reply
+          let not_parked = ap is_waiting_place e
+          in page.answered reply
           (not-an-end script w b holds p low high call under (ap is_end_place e))
-          (made reply m) (in-answer (ap is_end_place e) h reply e)
+          (far.made script w b holds p low high call under reply not_parked m) (in-answer (ap is_end_place e) h reply e)
+          (nowhere-waiting not_parked)
       by-place Ends e m = at-its-end e m
-      by-place (AsksLease kind) e m = sent-one (AsksLease kind) e refl refl refl m
-      by-place (HasLease kind first) e m = sent-one (HasLease kind first) e refl refl refl m
-      by-place InAsk e m = sent-one InAsk e refl refl refl m
-      by-place (InRequest h) e m = sent-one (InRequest h) e refl refl refl m
-      by-place (InNotOwner h) e m = sent-one (InNotOwner h) e refl refl refl m
-      by-place (SentByPlace h) e m = sent-one (SentByPlace h) e refl refl refl m
-      by-place (SentByRange h) e m = sent-one (SentByRange h) e refl refl refl m
-      by-place (InBounce h) e m = sent-one (InBounce h) e refl refl refl m
+      by-place Parked e m =
+          is-waiting (ap is_waiting_place e) m
+          (parked-here script w b holds bounded reads p low high call under e)
+      by-place (Waits name) e m =
+          is-waiting (ap is_waiting_place e) m
+          (waits-there script w b holds bounded reads p low high call under name e)
+      by-place (AsksLease kind) e m = sent-one (AsksLease kind) e refl refl refl refl m
+      by-place (HasLease kind first) e m = sent-one (HasLease kind first) e refl refl refl refl m
+      by-place InAsk e m = sent-one InAsk e refl refl refl refl m
+      by-place (InRequest h) e m = sent-one (InRequest h) e refl refl refl refl m
+      by-place (InNotOwner h) e m = sent-one (InNotOwner h) e refl refl refl refl m
+      by-place (SentByPlace h) e m = sent-one (SentByPlace h) e refl refl refl refl m
+      by-place (SentByRange h) e m = sent-one (SentByRange h) e refl refl refl refl m
+      by-place (InBounce h) e m = sent-one (InBounce h) e refl refl refl refl m

@@ -23,41 +23,49 @@ use Rattle.projection_laws.specs.Projection.{HasNode, frames_that, items_in, ite
 
 -- ---- over a list
 
--- none passes, so none counts
-pub count-none : {A : Type 0} (test : A → Bool) (xs : List A) → ((x : A) → Contains xs x → test x ≡ false)
-    → count_by test xs ≡ 0
-count-none test [] none = refl
-count-none test (x ∷ xs) none =
-    let first = ap (λ t. let zero_or_one : ℕ = cond t 1 0 in zero_or_one) (none x (contains-first x xs))
-    in let rest = count-none test xs (λ y there. none y (contains-later x xs y there))
-    in let both = sum_by-cons (λ y. cond (test y) 1 0) x xs
+-- nothing counts
+pub sum-zero : {A : Type 0} (f : A → ℕ) (xs : List A) → ((x : A) → Contains xs x → f x ≡ 0) → sum_by f xs ≡ 0
+sum-zero f [] none = refl
+sum-zero f (x ∷ xs) none =
+    let first = none x (contains-first x xs)
+    in let rest = sum-zero f xs (λ y there. none y (contains-later x xs y there))
+    in let both = sum_by-cons f x xs
     in omega (arith, first, rest, both)
 
 abbrev counted : {A : Type 0} → (A → Bool) → A → ℕ
 counted test y = cond (test y) 1 0
 
-among-first : {A : Type 0} (test other : A → Bool) (x : A) (xs : List A) → (other x ≡ false → test x ≡ false)
-    → count_by test xs ≡ count_by test (filter other xs)
-    → count_by test (x ∷ xs) ≡ count_by test (filter other (x ∷ xs))
-among-first test other x xs none rest = by-test (other x) refl
+-- none passes, so none counts
+pub count-none : {A : Type 0} (test : A → Bool) (xs : List A) → ((x : A) → Contains xs x → test x ≡ false)
+    → count_by test xs ≡ 0
+count-none test xs none = sum-zero (counted test) xs (λ x there. ap (λ t. cond t 1 0) (none x there))
+
+among-first : {A : Type 0} (f : A → ℕ) (other : A → Bool) (x : A) (xs : List A) → (other x ≡ false → f x ≡ 0)
+    → sum_by f xs ≡ sum_by f (filter other xs) → sum_by f (x ∷ xs) ≡ sum_by f (filter other (x ∷ xs))
+among-first f other x xs none rest = by-test (other x) refl
   where
     by-test : (t : Bool) → other x ≡ t
-        → count_by test (x ∷ xs) ≡ count_by test (cond t (x ∷ filter other xs) (filter other xs))
+        → sum_by f (x ∷ xs) ≡ sum_by f (cond t (x ∷ filter other xs) (filter other xs))
     by-test true e =
-        sum_by-cons (counted test) x xs ∙ ap (λ n. counted test x + n) rest
-        ∙ sym (sum_by-cons (counted test) x (filter other xs))
+        sum_by-cons f x xs ∙ ap (λ n. f x + n) rest ∙ sym (sum_by-cons f x (filter other xs))
     by-test false e =
-        let first : counted test x ≡ 0 = ap (λ t. cond t 1 0) (none e)
-        in let both = sum_by-cons (counted test) x xs
+        let first : f x ≡ 0 = none e
+        in let both = sum_by-cons f x xs
         in omega (arith, first, both, rest)
 
--- what passes one test passes another, so it counts among what passes that
+-- what counts passes a test, so it counts among what passes
+pub sum-among : {A : Type 0} (f : A → ℕ) (other : A → Bool) (xs : List A)
+    → ((x : A) → Contains xs x → other x ≡ false → f x ≡ 0) → sum_by f xs ≡ sum_by f (filter other xs)
+sum-among f other [] none = refl
+sum-among f other (x ∷ xs) none =
+    among-first f other x xs (none x (contains-first x xs))
+    (sum-among f other xs (λ y there. none y (contains-later x xs y there)))
+
+-- and so where what counts is what passes another test
 pub count-among : {A : Type 0} (test other : A → Bool) (xs : List A)
     → ((x : A) → Contains xs x → other x ≡ false → test x ≡ false) → count_by test xs ≡ count_by test (filter other xs)
-count-among test other [] none = refl
-count-among test other (x ∷ xs) none =
-    among-first test other x xs (none x (contains-first x xs))
-    (count-among test other xs (λ y there. none y (contains-later x xs y there)))
+count-among test other xs none =
+    sum-among (counted test) other xs (λ x there e. ap (λ t. cond t 1 0) (none x there e))
 
 -- one place counts at most
 pub sum-most : {A : Type 0} (f : A → ℕ) (xs : List A) (j m : ℕ)
@@ -130,15 +138,16 @@ numbers-most f first (suc count) j m others here =
 
 -- ---- over all streams
 
-module _ (w : World) (test : ℕ → ℕ → Frame → Bool) where
-  abbrev count : ℕ → ℕ → ℕ
-  count to sender = count_by (test to sender) (stream w to sender)
+-- what is counted in each stream, in all of them
+abbrev pub over_streams : World → (ℕ → ℕ → ℕ) → ℕ
+over_streams w count = sum_by (λ to. sum_by (count to) (nodes_of w)) (nodes_of w)
 
+module _ (w : World) (count : ℕ → ℕ → ℕ) where
   abbrev row : ℕ → ℕ
   row to = sum_by (count to) (nodes_of w)
 
-  pub frames-none : ((to sender : ℕ) → 1 ≤ to → 1 ≤ sender → count to sender ≡ 0) → frames_that w test ≡ 0
-  frames-none none =
+  pub streams-none : ((to sender : ℕ) → 1 ≤ to → 1 ≤ sender → count to sender ≡ 0) → over_streams w count ≡ 0
+  streams-none none =
       numbers-none row 1 (size w)
       (λ to low high. numbers-none (count to) 1 (size w) (λ sender low_from high_from. none to sender low low_from))
 
@@ -148,30 +157,31 @@ module _ (w : World) (test : ℕ → ℕ → Frame → Bool) where
     other-row a low high d =
         numbers-none (count a) 1 (size w) (λ c low_from high_from. others a c low low_from (λ e. absurd (d e)))
 
-    pub frames-one : 1 ≤ to → to ≤ size w → 1 ≤ sender → sender ≤ size w → frames_that w test ≡ count to sender
-    frames-one low high low_from high_from =
+    pub streams-one : 1 ≤ to → to ≤ size w → 1 ≤ sender → sender ≤ size w → over_streams w count ≡ count to sender
+    streams-one low high low_from high_from =
         numbers-one row 1 (size w) to low (omega (arith, high)) other-row
         ∙ numbers-one (count to) 1 (size w) sender low_from (omega (arith, high_from))
         (λ c above below d. others to c low above (λ e. d))
 
-    pub frames-most : 1 ≤ to → (m : ℕ) → count to sender ≤ m → frames_that w test ≤ m
-    frames-most low m here =
+    pub streams-most : 1 ≤ to → (m : ℕ) → count to sender ≤ m → over_streams w count ≤ m
+    streams-most low m here =
         numbers-most row 1 (size w) to m other-row
         (numbers-most (count to) 1 (size w) sender m (λ c above below d. others to c low above (λ e. d)) here)
 
-both-same : (a c : ℕ) → (nat_eq a a && nat_eq c c) ≡ true
+-- two numbers pass the test against themselves
+pub both-same : (a c : ℕ) → (nat_eq a a && nat_eq c c) ≡ true
 both-same a c = rw (eq-eqb a a refl, eq-eqb c c refl) refl
 
 -- what stands in one stream alone, or nowhere, is counted once, or not at all
-pub frames-at : (w : World) (test : ℕ → ℕ → Frame → Bool) (t : Bool) (to sender : ℕ)
+pub streams-at : (w : World) (count : ℕ → ℕ → ℕ) (t : Bool) (to sender : ℕ)
     → (t ≡ true → ((1 ≤ to) × (to ≤ size w)) × ((1 ≤ sender) × (sender ≤ size w)))
-    → ((a c : ℕ) → 1 ≤ a → 1 ≤ c
-    → count_by (test a c) (stream w a c) ≡ one_if (t && (nat_eq a to && nat_eq c sender)))
-    → frames_that w test ≡ one_if t
-frames-at w test false to sender range counts = frames-none w test (λ a c low low_from. counts a c low low_from)
-frames-at w test true to sender range counts =
+    → ((a c : ℕ) → 1 ≤ a → 1 ≤ c → count a c ≡ one_if (t && (nat_eq a to && nat_eq c sender)))
+    → over_streams w count ≡ one_if t
+streams-at w count false to sender range counts =
+    streams-none w count (λ a c low low_from. counts a c low low_from)
+streams-at w count true to sender range counts =
     let r = range refl
-    in frames-one w test to sender
+    in streams-one w count to sender
     (λ a c low low_from d. counts a c low low_from ∙ ap (λ s. let n : ℕ = one_if s in n) (apart a c d))
     (r.0).0 (r.0).1 (r.1).0 (r.1).1
     ∙ counts to sender (r.0).0 (r.1).0
@@ -183,6 +193,29 @@ frames-at w test true to sender range counts =
         by-row : (s : Bool) → nat_eq a to ≡ s → (s && nat_eq c sender) ≡ false
         by-row false e = refl
         by-row true e = ne_eqb c sender (d (eqb-true a to e))
+
+-- the frames of each stream that pass a test
+abbrev pub passing : World → (ℕ → ℕ → Frame → Bool) → ℕ → ℕ → ℕ
+passing w test to sender = count_by (test to sender) (stream w to sender)
+
+-- where none passes in any stream, none does in the world
+pub frames-none : (w : World) (test : ℕ → ℕ → Frame → Bool)
+    → ((to sender : ℕ) → 1 ≤ to → 1 ≤ sender → passing w test to sender ≡ 0) → frames_that w test ≡ 0
+frames-none w test none = streams-none w (passing w test) none
+
+-- where they pass in one stream only, the world has no more of them than that
+pub frames-most : (w : World) (test : ℕ → ℕ → Frame → Bool) (to sender : ℕ)
+    → ((a c : ℕ) → 1 ≤ a → 1 ≤ c → (a ≡ to → c ≢ sender) → passing w test a c ≡ 0) → 1 ≤ to → (m : ℕ)
+    → passing w test to sender ≤ m → frames_that w test ≤ m
+frames-most w test to sender others low m here = streams-most w (passing w test) to sender others low m here
+
+-- where one passes in one stream if it is so, and nothing else does, the world has one then and else none
+pub frames-at : (w : World) (test : ℕ → ℕ → Frame → Bool) (t : Bool) (to sender : ℕ)
+    → (t ≡ true → ((1 ≤ to) × (to ≤ size w)) × ((1 ≤ sender) × (sender ≤ size w)))
+    → ((a c : ℕ) → 1 ≤ a → 1 ≤ c
+    → count_by (test a c) (stream w a c) ≡ one_if (t && (nat_eq a to && nat_eq c sender)))
+    → frames_that w test ≡ one_if t
+frames-at w test t to sender range counts = streams-at w (passing w test) t to sender range counts
 
 -- ---- over all that is held
 

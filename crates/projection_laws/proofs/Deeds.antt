@@ -14,7 +14,7 @@ use Rattle.entry_laws.specs.Entering.{is_used_name}
 use Rattle.entry_laws.proofs.Names.{same-name}
 use Rattle.node_model.specs.declared.held.Held.{Held}
 use Rattle.node_model.specs.declared.held.Held.TheVariants.{Request, Ending}
-use Rattle.node_model.specs.Bodies.{Body, body_in}
+use Rattle.node_model.specs.Bodies.{Body}
 use Rattle.node_model.specs.Directory.{has_deed_of, held_for, is_parcel_with, items_of}
 use Rattle.node_model.specs.Kinds.{get_named, is_same_name, number_of}
 use Rattle.node_model.specs.Spelling.{pack, read_deed}
@@ -27,9 +27,10 @@ use Rattle.world_laws.specs.Names.{HasDeed, IsBringer, IsCheckpointOf, IsExitOf,
 use Rattle.world_laws.specs.Places.{Beside, DeedPlace, Unmade, InTable, InCheckpoint, InGrant, InGiveBack, InLeft, InKept, InHand, InExitTo}
 use Rattle.world_laws.specs.Sights.{directory_of, frames_to, is_born_in, stage_of}
 use Rattle.world_laws.specs.Ways.{HasSender, IsParcelIn, IsParcelOf, kept as kept_in, left as left_in, sent as sent_in, under_way_of}
+use Rattle.world_laws.specs.Wholes.{HasWhole}
 use Rattle.world_laws.proofs.NameFacts.{IsHeldAt, held-there as held-as-there}
 use Rattle.rest_laws.proofs.Senders.{carrier}
-use Rattle.projection_laws.specs.Projection.{DeedsAreParts, IsPart, deeds_held, deeds_in}
+use Rattle.projection_laws.specs.Projection.{DeedsAreParts, HasNode, IsBodyOf, IsPart, deeds_held, deeds_in}
 use Rattle.projection_laws.proofs.Brought.{Brought, brought-is, one-entry, unpacked}
 use Rattle.projection_laws.proofs.Views.{any-there, each-in, held-is, node-is, on-way}
 
@@ -109,7 +110,7 @@ module _ (script : Script) (w : World) (b : Beside) (holds : Holds script w [] b
   known name = holds.names name
 
   abbrev body_of : Name → Body
-  body_of name = body_in b.kernel name
+  body_of name = b.body name
 
   -- a name whose deed is somewhere is used
   used-by-place : (name : Name) (test : DeedPlace → Bool) → test Unmade ≡ false → test (b.deed name) ≡ true
@@ -196,14 +197,37 @@ module _ (script : Script) (w : World) (b : Beside) (holds : Holds script w [] b
 
   -- ---- deeds
 
-  module _ (reads : DeedsAreRead b.kernel) where
-    part-is : (deed : PackedDeed) → is_used_name b.kernel deed.name ≡ true → deed ≡ pack deed.name (body_of deed.name)
-        → IsPart b.kernel deed
-    part-is deed used is = record { spelled = is; read = ap read_deed is ∙ reads deed.name used }
+  -- a deed on its way spells its name's body, and is read back as that
+  pub record SpellsBody (deed : PackedDeed) : Type 0 where
+    pub used : is_used_name b.kernel deed.name ≡ true
+    pub spelled : deed ≡ pack deed.name (body_of deed.name)
+    pub read : read_deed deed ≡ Some (body_of deed.name)
 
-    alone-is-part : (to sender : ℕ) (frame : Frame) (deed : PackedDeed) → Contains (frames_to w to sender) frame
-        → alone frame ≡ Some deed → brings deed.name frame ≡ true → IsPart b.kernel deed
-    alone-is-part to sender frame deed there is has =
+  pub is-part : (name : Name) → IsBodyOf b.whole name (body_of name)
+  is-part name = let whole : HasWhole w b = holds.whole in whole.bodies name
+
+  part-of : (deed : PackedDeed) → SpellsBody deed → IsPart b.whole deed
+  part-of deed s =
+      record { body = body_of deed.name; is = is-part deed.name; spelled = s.spelled; read = s.read }
+
+  -- what is in a node's table is its name's body
+  pub table-is : (p : ℕ) (n : Node) (name : Name) (body : Body) → HasNode w p n → get_named n.deeds name ≡ Some body
+      → (b.deed name ≡ InTable p) × (body ≡ body_of name)
+  table-is p n name body is there =
+      let k = known name
+      in let it : IsHeldAt (b.deed name) (body_of name) p body =
+      held-as-there (b.deed name) (body_of name) p body
+      (sym (k.tables p) ∙ ap (λ (m : Node). get_named m.deeds name) (node-is script w b holds p n is) ∙ there)
+      in (it.deed_is, it.body_is)
+
+  module _ (reads : DeedsAreRead b.kernel b.body) where
+    part-is : (deed : PackedDeed) → is_used_name b.kernel deed.name ≡ true → deed ≡ pack deed.name (body_of deed.name)
+        → SpellsBody deed
+    part-is deed used is = record { used = used; spelled = is; read = ap read_deed is ∙ reads deed.name used }
+
+    alone-spells : (to sender : ℕ) (frame : Frame) (deed : PackedDeed) → Contains (frames_to w to sender) frame
+        → alone frame ≡ Some deed → brings deed.name frame ≡ true → SpellsBody deed
+    alone-spells to sender frame deed there is has =
         let r : Brought script w b holds deed.name to sender frame =
         brought-is script w b holds deed.name to sender frame there has
         in part-is deed r.used
@@ -212,10 +236,10 @@ module _ (script : Script) (w : World) (b : Beside) (holds : Holds script w [] b
 
     -- a deed alone is its only one
     only-one : (to sender : ℕ) (frame : Frame) (one deed : PackedDeed) → Contains (frames_to w to sender) frame
-        → alone frame ≡ Some one → brings one.name frame ≡ true → Contains (one ∷ []) deed → IsPart b.kernel deed
+        → alone frame ≡ Some one → brings one.name frame ≡ true → Contains (one ∷ []) deed → SpellsBody deed
     only-one to sender frame one deed there is has among =
         elim (contains-cases one [] deed among) [
-          | inl same ↦ subst (IsPart b.kernel) same (alone-is-part to sender frame one there is has)
+          | inl same ↦ subst SpellsBody same (alone-spells to sender frame one there is has)
           | inr later ↦ absurd (contains-none deed later)
         ]
 
@@ -223,54 +247,50 @@ module _ (script : Script) (w : World) (b : Beside) (holds : Holds script w [] b
     has-it parcel deed among =
         any-there (λ (d : PackedDeed). is_same_name deed.name d.name) parcel.deeds deed among (same-name deed.name)
 
-    in-parcel-is-part : (parcel : Parcel) → IsParcelIn w [] parcel → (deed : PackedDeed) → Contains parcel.deeds deed
-        → IsInParcel deed.name parcel → IsPart b.kernel deed
-    in-parcel-is-part parcel there deed among is =
+    in-parcel-spells : (parcel : Parcel) → IsParcelIn w [] parcel → (deed : PackedDeed) → Contains parcel.deeds deed
+        → IsInParcel deed.name parcel → SpellsBody deed
+    in-parcel-spells parcel there deed among is =
         let has = is.has
         in part-is deed is.used
         (one-deed parcel (holds.parcels parcel there) deed (body_of deed.name) among has.there)
 
-    frame-is-part : (to sender : ℕ) (frame : Frame) (deed : PackedDeed) → Contains (frames_to w to sender) frame
-        → Contains (deeds_in frame) deed → IsPart b.kernel deed
-    frame-is-part to sender (frames.Checkpoint pid parent one vars) deed there among =
+    pub frame-spells : (to sender : ℕ) (frame : Frame) (deed : PackedDeed) → Contains (frames_to w to sender) frame
+        → Contains (deeds_in frame) deed → SpellsBody deed
+    frame-spells to sender (frames.Checkpoint pid parent one vars) deed there among =
         only-one to sender (frames.Checkpoint pid parent one vars) one deed there refl (same-name one.name) among
-    frame-is-part to sender (frames.GiveBack one) deed there among =
+    frame-spells to sender (frames.GiveBack one) deed there among =
         only-one to sender (frames.GiveBack one) one deed there refl (same-name one.name) among
-    frame-is-part to sender (frames.Grant one) deed there among =
+    frame-spells to sender (frames.Grant one) deed there among =
         only-one to sender (frames.Grant one) one deed there refl (same-name one.name) among
-    frame-is-part to sender (frames.Left parcel) deed there among =
+    frame-spells to sender (frames.Left parcel) deed there among =
         let first : to ≡ 1 = let fit = holds.frames_fit in fit.may_be to sender (frames.Left parcel) there
-        in in-parcel-is-part parcel
+        in in-parcel-spells parcel
         (left_in sender (subst (λ q. Contains (frames_to w q sender) (frames.Left parcel)) first there)) deed among
         (in-stream to sender (frames.Left parcel) parcel there refl deed.name (has-it parcel deed among))
-    frame-is-part to sender (frames.ExitTo parcel) deed there among =
+    frame-spells to sender (frames.ExitTo parcel) deed there among =
         let first : sender ≡ 1 = let fit = holds.frames_fit in fit.may_be to sender (frames.ExitTo parcel) there
-        in in-parcel-is-part parcel
+        in in-parcel-spells parcel
         (sent_in to (subst (λ q. Contains (frames_to w to q) (frames.ExitTo parcel)) first there)) deed among
         (in-stream to sender (frames.ExitTo parcel) parcel there refl deed.name (has-it parcel deed among))
-    frame-is-part to sender frame deed there among = absurd (contains-none deed among)
+    frame-spells to sender frame deed there among = absurd (contains-none deed among)
 
-    item-is-part : (name : Name) (item : Held) (deed : PackedDeed) → Contains (held_for (directory_of w) name) item
-        → Contains (deeds_held item) deed → IsPart b.kernel deed
-    item-is-part name (Request asked) deed there among = absurd (contains-none deed among)
-    item-is-part name (Ending parcel) deed there among =
+    item-spells : (name : Name) (item : Held) (deed : PackedDeed) → Contains (held_for (directory_of w) name) item
+        → Contains (deeds_held item) deed → SpellsBody deed
+    item-spells name (Request asked) deed there among = absurd (contains-none deed among)
+    item-spells name (Ending parcel) deed there among =
         let here : Contains (held_for (directory_of w) (Proc parcel.parent)) (Ending parcel) =
         subst (λ m. Contains (held_for (directory_of w) m) (Ending parcel)) (held-for-parent name parcel there) there
-        in in-parcel-is-part parcel (kept_in parcel.parent here) deed among
+        in in-parcel-spells parcel (kept_in parcel.parent here) deed among
         (in-held parcel.parent parcel here deed.name (has-it parcel deed among))
 
     -- Each deed is the kernel's part of its name.
-    pub deeds-are-parts : DeedsAreParts w b.kernel
+    pub deeds-are-parts : DeedsAreParts w b.whole
     deeds-are-parts =
         record {
           in_tables = λ p n name body is there.
-              let k = known name
-              in let it : IsHeldAt (b.deed name) (body_of name) p body =
-              held-as-there (b.deed name) (body_of name) p body
-              (sym (k.tables p) ∙ ap (λ (m : Node). get_named m.deeds name) (node-is script w b holds p n is) ∙ there)
-              in it.body_is;
+              subst (IsBodyOf b.whole name) (sym (table-is p n name body is there).1) (is-part name);
           on_way = λ to sender frame deed is among.
-              frame-is-part to sender frame deed (on-way script w b holds to sender frame is) among;
+              part-of deed (frame-spells to sender frame deed (on-way script w b holds to sender frame is) among);
           held = λ name item deed is among.
-              item-is-part name item deed (held-is script w b holds name item is) among;
+              part-of deed (item-spells name item deed (held-is script w b holds name item is) among);
         }

@@ -13,7 +13,7 @@ use Rattle.rpc_frame.specs.declared.frame.Frame.TheVariants as frames
 use Rattle.kernel_laws.proofs.Plain.{from_some, not_some}
 use Rattle.node_model.specs.declared.held.Held.{Held}
 use Rattle.node_model.specs.declared.held.Held.TheVariants.{Request, Ending}
-use Rattle.node_model.specs.Bodies.{Body, body_in}
+use Rattle.node_model.specs.Bodies.{Body}
 use Rattle.node_model.specs.Directory.{has_deed_of, held_for, is_parcel_with}
 use Rattle.world_model.specs.Census.{brings, one_if}
 use Rattle.world_model.specs.World.{World, node_count, size, stream}
@@ -65,7 +65,7 @@ module _ (script : Script) (w : World) (b : Beside) (holds : Holds script w [] b
   deed = b.deed own
 
   abbrev body : Body
-  body = body_in b.kernel own
+  body = b.body own
 
   known : NameHolds script b.pids (is_born_in w) own (name_sight script w [] b own)
   known = holds.names own

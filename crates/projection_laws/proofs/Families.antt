@@ -1,5 +1,5 @@
 -- An ended process's deed is together with that of the living process that keeps it.
-use Rattle.std.proofs.Common.{◌≡◌, ◌≢◌, ℕ, Bool, true, false, ◌&&◌, nat_eq, List, [], ◌∷◌, filter, Some, is_some, Contains, refl, ap, sym, subst, ◌∙◌, inl, inr}
+use Rattle.std.proofs.Common.{◌≡◌, ◌≢◌, ℕ, Bool, true, false, ◌&&◌, nat_eq, List, [], ◌∷◌, filter, Some, is_some, Contains, refl, ap, sym, subst, ◌∙◌, inl, inr, Option, None, option_and_then}
 use Rattle.std.proofs.lemmas.Bool.{eq-eqb}
 use Rattle.pico_base.specs.declared.numbers.Name.{Name}
 use Rattle.pico_base.specs.declared.numbers.Name.TheVariants.{Proc}
@@ -13,6 +13,13 @@ use Rattle.entry_laws.proofs.Names.{same-name}
 use Rattle.node_model.specs.Kinds.{is_same_name}
 use Rattle.node_model.specs.Spelling.{pack}
 use Rattle.rpc_frame.specs.declared.deed.PackedDeed.{PackedDeed}
+use Rattle.kernel_model.specs.Row.{Alive, Row, ended_child}
+use Rattle.waiting_model.specs.Kernel.{alive_in}
+use Rattle.waiting_model.specs.Kernel as waiting
+use Rattle.waiting_model.specs.Marks as waiting_marks
+use Rattle.waiting_laws.specs.InLine.{AlikeAt, IsAlike}
+use Rattle.entry_laws.proofs.History.{history-reachable}
+use Rattle.world_laws.specs.Wholes.{HasWhole}
 use Rattle.world_laws.specs.Ways.{IsParcelIn, kept as kept_in, left as left_in, sent as sent_in}
 use Rattle.projection_laws.proofs.Parcels.{own-deed}
 use Rattle.kernel_laws.proofs.People.{from-living}
@@ -24,7 +31,7 @@ use Rattle.kernel_model.specs.Valid.{HasKeeper, IsValid}
 use Rattle.number_maps.specs.Maps.{get}
 use Rattle.node_model.specs.declared.held.Held.{Held}
 use Rattle.node_model.specs.declared.held.Held.TheVariants.{Ending as EndingOf}
-use Rattle.node_model.specs.Bodies.{Body, body_in}
+use Rattle.node_model.specs.Bodies.{Body}
 use Rattle.node_model.specs.Directory.{has_deed_of, held_for, is_parcel_with}
 use Rattle.world_model.specs.Census.{brings}
 use Rattle.world_model.specs.World.{World}
@@ -67,6 +74,31 @@ one-alone true P xs one x y here there = sym (is-one x here) ∙ is-one y there
           | inr later ↦ absurd (contains-none z later)
         ]
 
+-- ---- two kernels that are alike
+
+ended-alike : (o : Option waiting.Process) (p : Option kernel.Process) (ending : Ending) → AlikeAt o p
+    → o ≡ Some (waiting.Ended ending) → p ≡ Some (kernel.Ended ending)
+ended-alike (Some (waiting.Ended a)) (Some (kernel.Ended c)) ending alike e =
+    let same : a ≡ ending = cc in ap (λ (z : Ending). Some (kernel.Ended z)) (sym alike ∙ same)
+ended-alike (Some (waiting.Living a)) p ending alike e = absurd (cc)
+ended-alike (Some waiting.Gone) p ending alike e = absurd (cc)
+ended-alike None p ending alike e = absurd (cc)
+ended-alike o p ending alike e = absurd alike
+
+record LivesWhole (o : Option waiting.Process) (x : Alive) : Type 0 where
+  alive : waiting_marks.Alive
+  is : o ≡ Some (waiting.Living alive)
+  row : alive.row ≡ x.row
+
+living-alike : (o : Option waiting.Process) (p : Option kernel.Process) (x : Alive) → AlikeAt o p
+    → p ≡ Some (kernel.Living x) → LivesWhole o x
+living-alike (Some (waiting.Living a)) (Some (kernel.Living y)) x alike e =
+    let same : y ≡ x = cc in record { alive = a; is = refl; row = alike.0 ∙ ap (λ (z : Alive). z.row) same }
+living-alike o (Some (kernel.Ended ending)) x alike e = absurd (cc)
+living-alike o (Some kernel.Gone) x alike e = absurd (cc)
+living-alike o None x alike e = absurd (cc)
+living-alike o p x alike e = absurd alike
+
 module _ (script : Script) (w : World) (b : Beside) (holds : Holds script w [] b) where
   abbrev sight : Name → NameSight
   sight name = name_sight script w [] b name
@@ -75,7 +107,7 @@ module _ (script : Script) (w : World) (b : Beside) (holds : Holds script w [] b
   known name = holds.names name
 
   abbrev body_of : Name → Body
-  body_of name = body_in b.kernel name
+  body_of name = b.body name
 
   has-it : (name : Name) (pid : ℕ) (parcel : Parcel) → HasDeed name (body_of name) pid parcel
       → has_deed_of name parcel ≡ true
@@ -265,10 +297,15 @@ module _ (script : Script) (w : World) (b : Beside) (holds : Holds script w [] b
       }
 
   -- An ended process is with the living one that keeps it.
-  pub ended-is-kept : (pid : ℕ) (ending : Ending) → get b.kernel.processes pid ≡ Some (kernel.Ended ending)
-      → IsWithItsParent w b.kernel pid ending
-  ended-is-kept pid ending is =
-      let valid : IsValid b.kernel = reachable_kernels_are_valid_lemma b.kernel (w.journal, holds.history.legal)
+  pub ended-is-kept : (pid : ℕ) (ending : Ending) → get b.whole.processes pid ≡ Some (waiting.Ended ending)
+      → IsWithItsParent w b.whole pid ending
+  ended-is-kept pid ending ended =
+      let whole : HasWhole w b = holds.whole
+      in let alike : IsAlike b.whole b.kernel = whole.alike
+      in let is : get b.kernel.processes pid ≡ Some (kernel.Ended ending) =
+      ended-alike (get b.whole.processes pid) (get b.kernel.processes pid) ending (alike.processes pid) ended
+      in let valid : IsValid b.kernel =
+      reachable_kernels_are_valid_lemma b.kernel (history-reachable script b.lines b.kernel b.places holds.history)
       in let k : HasKeeper b.kernel pid ending = valid.kept pid ending is
       in let pids = holds.pids
       in let node = pids.there pid (kernel.Ended ending) is
@@ -284,11 +321,14 @@ module _ (script : Script) (w : World) (b : Beside) (holds : Holds script w [] b
       in let parent_is : b.pids (forker script c) ≡ k.keeper =
       ap (λ x. b.pids (forker script x)) same ∙ ap b.pids child.1 ∙ of.1
       in let r : RestsWithParent c = ended-rests c ending forked (ap (get b.kernel.processes) node.1 ∙ is)
+      in let lives : LivesWhole (get b.whole.processes k.keeper) k.alive =
+      living-alike (get b.whole.processes k.keeper) (get b.kernel.processes k.keeper) k.alive
+      (alike.processes k.keeper) (from-living b.kernel.processes k.keeper k.alive k.lives)
       in record {
         parent = k.keeper;
-        alive = k.alive;
-        lives = k.lives;
-        kept = k.kept;
+        alive = lives.alive;
+        lives = ap (option_and_then alive_in) lives.is;
+        kept = subst (λ (row : Row). Contains row.family.ended (ended_child pid ending)) (sym lives.row) k.kept;
         together = resting-together c (Proc pid) (Proc k.keeper) (b.deed (Proc (b.pids c))) r.rests
             (ap (λ q. b.deed (Proc q)) (sym node.1))
             (ap (λ q. b.deed (Proc q)) (sym parent_is) ∙ sym r.with_parent);

@@ -7,6 +7,9 @@ pub mod Parcels
 pub mod Families
 pub mod CallPlaces
 pub mod CallCounts
+pub mod HowFar
+pub mod Waiters
 pub mod Ends
 pub mod Calls
+pub mod Withdrawals
 pub mod Worlds

@@ -18,9 +18,14 @@ use Rattle.node_model.specs.Kinds.{for_kind, is_same_kind}
 use Rattle.node_model.specs.Leases.{Leases, lease_of}
 use Rattle.world_model.specs.Node.{Node}
 use Rattle.world_model.specs.World.{World, node_count, stream}
+use Rattle.number_maps.specs.Maps.{is_used}
+use Rattle.kernel_model.specs.Footprint.{used_of}
+use Rattle.waiting_model.specs.Plain.{plain_kernel}
+use Rattle.world_laws.specs.Wholes.{HasWhole}
+use Rattle.rest_laws.proofs.OneReplay.{used-alike}
 use Rattle.world_laws.specs.Callers.{CallHolds, HasCall, HasCallOrNone, HasNoCall, IsJustThere, IsNowhere, asked_of, call_sight, frame_at, is_about, is_in_stream, lease_is_over, only_if}
 use Rattle.world_laws.specs.Invariant.{Holds}
-use Rattle.world_laws.specs.Places.{AsksLease, Beside, CallPlace, Ends, HasLease, Idle, InAnswer, InAsk, InBounce, InNotOwner, InRequest, IsHeld, IsInHand, SentByPlace, SentByRange}
+use Rattle.world_laws.specs.Places.{AsksLease, Beside, CallPlace, Ends, HasLease, Idle, InAnswer, InAsk, InBounce, InNotOwner, InRequest, IsHeld, IsInHand, Parked, SentByPlace, SentByRange, Waits}
 use Rattle.world_laws.specs.Ranges.{KindHolds, KindSight, is_given, is_in_lease, first_if, kind_sight, lease_in}
 use Rattle.world_laws.specs.Sights.{frames_to, is_born_in, node_of}
 use Rattle.world_laws.proofs.Numbers.{in-range, maker-in-range, maker-of-rest}
@@ -158,6 +163,8 @@ module _ (kind : Kind) (leases : Leases) (asked : Asked) where
   leased-over IsInHand true over = inl refl
   leased-over (InAnswer x reply) true over = inl refl
   leased-over Ends true over = inl refl
+  leased-over Parked true over = inl refl
+  leased-over (Waits name) true over = inl refl
 
 -- ---- a world
 
@@ -350,7 +357,13 @@ module _ (script : Script) (w : World) (b : Beside) (holds : Holds script w [] b
           by-test false e = got-there ranges ((number - 1) / range_size) e
 
   abbrev Apart : Type 0
-  Apart = NumberIsApart w b.kernel kind number
+  Apart = NumberIsApart w b.whole kind number
+
+  -- the two kernels have used the same numbers
+  used-same : is_used (used_of (plain_kernel b.whole) kind) number ≡ x.used number
+  used-same =
+      let whole : HasWhole w b = holds.whole
+      in ap (λ used. is_used used number) (used-alike b.whole b.kernel whole.alike kind)
 
   ranges-are : (n : Node) → HasNode w 1 n → x.ranges ≡ for_kind n.leader.directory.ranges kind
   ranges-are n is = ap (λ (m : Node). for_kind m.leader.directory.ranges kind) (node-is script w b holds 1 n is)
@@ -367,8 +380,8 @@ module _ (script : Script) (w : World) (b : Beside) (holds : Holds script w [] b
           in let way = coming-elsewhere None made 1 (none-apart 1)
           in record {
             once = omega (arith, all, here, way);
-            unused = λ some. unused;
-            given = λ used n is. absurd (false≢true (sym unused ∙ used));
+            unused = λ some. used-same ∙ unused;
+            given = λ used n is. absurd (false≢true (sym unused ∙ sym used-same ∙ used));
           }
       by-maker (Some h) made =
           let range = maker-in-script h made
@@ -376,7 +389,7 @@ module _ (script : Script) (w : World) (b : Beside) (holds : Holds script w [] b
           in let here = once-at h range.0 range.1
           in record {
             once = omega (arith, all, here);
-            unused = λ some. unused-unless (x.used number) refl
+            unused = λ some. used-same ∙ unused-unless (x.used number) refl
                 (λ used. let none = taken-at h made used in omega (arith, some, all, none));
             given = λ used n is.
                 (h, ap (λ ranges. maker_in ranges number) (sym (ranges-are n is)) ∙ made);

@@ -3,9 +3,9 @@
 use Rattle.std.specs.Prelude.{List, ◌++◌}
 use Rattle.pico_base.specs.declared.script.Event.{Event}
 use Rattle.pico_base.specs.declared.script.Script.{Script}
-use Rattle.kernel_model.specs.Kernel.{Kernel, opening}
-use Rattle.kernel_model.specs.History.{Replays}
 use Rattle.kernel_model.specs.Script.{IsSoundScript}
+use Rattle.waiting_model.specs.History.{Replays}
+use Rattle.waiting_model.specs.Kernel.{Kernel, opening}
 use Rattle.world_model.specs.Run.{IsReachableWorld, IsRunOf}
 use Rattle.world_model.specs.World.{World}
 use Rattle.projection_laws.specs.Projection.{Projects}

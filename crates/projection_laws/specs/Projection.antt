@@ -1,7 +1,7 @@
 -- The projection of a world to a kernel: what the nodes hold, what is on its way and what the leader holds for later is
 -- that kernel, in parts. Each deed is the kernel's part of its name, each number is free in one place or used, and each
 -- call under way is in one place until it is carried out.
-use Rattle.std.specs.Prelude.{◌≡◌, ◌≢◌, ◌≤◌, ℕ, ◌+◌, Bool, true, false, ◌&&◌, nat_eq, List, [], ◌∷◌, Option, Some, None, Contains, sum_by, count_by}
+use Rattle.std.specs.Prelude.{◌≡◌, ◌≢◌, ◌⊎◌, ◌≤◌, ℕ, ◌+◌, Bool, true, false, not, ◌&&◌, nat_eq, List, [], ◌∷◌, Option, Some, None, Contains, sum_by, count_by}
 use Rattle.std.specs.List.{list_any}
 use Rattle.std.specs.Option.{option_map}
 use Rattle.pico_base.specs.declared.call.Call.{Call}
@@ -17,18 +17,24 @@ use Rattle.rpc_frame.specs.declared.deed.Parcel.{Parcel}
 use Rattle.rpc_frame.specs.declared.frame.Frame.{Frame}
 use Rattle.rpc_frame.specs.declared.frame.Frame.TheVariants as frames
 use Rattle.number_maps.specs.Maps.{Numbered, get, is_used}
-use Rattle.kernel_model.specs.Row.{Alive, Free, One, ended_child}
-use Rattle.kernel_model.specs.Kernel.{Kernel, living_at}
-use Rattle.kernel_model.specs.Kernel as kernel
-use Rattle.kernel_model.specs.SetCalls.{set_size}
+use Rattle.kernel_model.specs.Row.{Free, One, ended_child}
 use Rattle.kernel_model.specs.Footprint.{used_of}
-use Rattle.kernel_model.specs.Fitting.{FitsFrom, Place, Places, is_killed, opening_places, place_after}
+use Rattle.kernel_model.specs.Fitting.{Place, is_killed, place_after}
+use Rattle.waiting_model.specs.declared.callers.Waiting.{Waiting}
+use Rattle.waiting_model.specs.Calls.{is_withdrawal, may_park, waits_at}
+use Rattle.waiting_model.specs.Marks.{Alive}
+use Rattle.waiting_model.specs.Kernel.{Kernel, living_at}
+use Rattle.waiting_model.specs.Kernel as kernel
+use Rattle.waiting_model.specs.Plain.{plain_kernel}
+use Rattle.waiting_model.specs.SetCalls.{set_size}
+use Rattle.waiting_model.specs.Fitting.{FitsFrom, Places, opening_places}
 use Rattle.node_model.specs.declared.held.Held.{Held}
 use Rattle.node_model.specs.declared.held.Held.TheVariants.{Request, Ending as EndingOf}
-use Rattle.node_model.specs.Bodies.{Body, body_in}
+use Rattle.node_model.specs.Bodies.{Body, whole_in, erase, waiters_of}
+use Rattle.node_model.specs.Serving.{waiting_as}
 use Rattle.node_model.specs.Caller.{caller_place}
-use Rattle.node_model.specs.Directory.{Place as NamePlace, has_deed_of, held_for, is_parcel, items_of, maker_in}
-use Rattle.node_model.specs.Kinds.{Named, for_kind, get_named, is_same_kind, none_named}
+use Rattle.node_model.specs.Directory.{Place as NamePlace, has_deed_of, held_for, is_known, is_parcel, items_of, maker_in, stays}
+use Rattle.node_model.specs.Kinds.{Named, for_kind, get_named, is_object, is_same_kind, none_named}
 use Rattle.node_model.specs.Leases.{lease_of, takes_number}
 use Rattle.node_model.specs.Spelling.{pack, read_deed}
 use Rattle.world_model.specs.Census.{one_if}
@@ -100,20 +106,32 @@ abbrev pub deeds_held : Held → List PackedDeed
 deeds_held (Request asked) = []
 deeds_held (EndingOf parcel) = parcel.deeds
 
--- a deed on its way spells the kernel's part of its name, and is read back as that
-pub record IsPart (k : Kernel) (deed : PackedDeed) : Type 0 where
-  pub spelled : deed ≡ pack deed.name (body_in k deed.name)
-  pub read : read_deed deed ≡ Some (body_in k deed.name)
+-- A body is the kernel's part of a name but for the nodes and tickets of those who wait there: a row without its marks,
+-- an ending, that the process is gone, a queue, a set, or that it was removed.
+abbrev pub IsBodyOf : Kernel → Name → Body → Type 0
+IsBodyOf k name body = erase body ≡ whole_in k name
 
--- Each deed's body, wherever the deed is, is the kernel's part of its name: a row without what its process may still
--- do, an ending, that the process is gone, a queue, a set, or that it was removed.
+-- a deed on its way spells a body that is its name's, and is read back as that
+pub record IsPart (k : Kernel) (deed : PackedDeed) : Type 0 where
+  pub body : Body
+  pub is : IsBodyOf k deed.name body
+  pub spelled : deed ≡ pack deed.name body
+  pub read : read_deed deed ≡ Some body
+
+-- Each deed's body, wherever the deed is, is the kernel's part of its name.
 pub record DeedsAreParts (w : World) (k : Kernel) : Type 0 where
   pub in_tables : (p : ℕ) (n : Node) (name : Name) (body : Body) → HasNode w p n → get_named n.deeds name ≡ Some body
-      → body ≡ body_in k name
+      → IsBodyOf k name body
   pub on_way : (to sender : ℕ) (frame : Frame) (deed : PackedDeed) → IsOnWay w to sender frame
       → Contains (deeds_in frame) deed → IsPart k deed
   pub held : (name : Name) (item : Held) (deed : PackedDeed) → IsHeldFor w name item
       → Contains (deeds_held item) deed → IsPart k deed
+
+-- a body of this name, in a node's table or in a deed on its way
+pub data IsSomewhere (w : World) (name : Name) (body : Body) : Type 0 where
+  table : (p : ℕ) (n : Node) → HasNode w p n → get_named n.deeds name ≡ Some body → IsSomewhere w name body
+  on_way : (to sender : ℕ) (frame : Frame) (deed : PackedDeed) → IsOnWay w to sender frame
+      → Contains (deeds_in frame) deed → deed.name ≡ name → read_deed deed ≡ Some body → IsSomewhere w name body
 
 -- ---- keys
 
@@ -144,8 +162,8 @@ still_to_take w kind number = in_leases w kind number + frames_that w (λ to sen
 -- range that was given out.
 pub record NumberIsApart (w : World) (k : Kernel) (kind : Kind) (number : ℕ) : Type 0 where
   pub once : still_to_take w kind number ≤ 1
-  pub unused : 1 ≤ still_to_take w kind number → is_used (used_of k kind) number ≡ false
-  pub given : is_used (used_of k kind) number ≡ true → (n : Node) → HasNode w 1 n
+  pub unused : 1 ≤ still_to_take w kind number → is_used (used_of (plain_kernel k) kind) number ≡ false
+  pub given : is_used (used_of (plain_kernel k) kind) number ≡ true → (n : Node) → HasNode w 1 n
       → (owner : ℕ) × (maker_in (for_kind n.leader.directory.ranges kind) number ≡ Some owner)
 
 -- ---- families
@@ -166,15 +184,22 @@ pub record IsWithItsParent (w : World) (k : Kernel) (pid : ℕ) (ending : Ending
 
 -- ---- calls
 
--- how far the journal has a process: at this place of its block
-pub record HasComeTo (w : World) (pid : ℕ) (place : Place) : Type 0 where
+-- how far the journal has a process: at this place of its block, where its call waits or not
+pub record HasComeSo (w : World) (pid : ℕ) (place : Place) (parked : Bool) : Type 0 where
   pub places : Places
   pub fits : FitsFrom w.script (opening_places w.script) w.journal places
-  pub there : get places pid ≡ Some place
+  pub there : get places pid ≡ Some (record { place = place; parked = parked })
+
+abbrev pub HasComeTo : World → ℕ → Place → Type 0
+HasComeTo w pid place = HasComeSo w pid place false
 
 -- the call under way at node p isn't carried out: the journal has its process where the node is
 abbrev pub IsToBeMade : World → ℕ → Node → Type 0
 IsToBeMade w p n = HasComeTo w n.pid (caller_place w.script p n.caller)
+
+-- it is parked: the journal has its process where the node is, with the call that waits
+abbrev pub IsParked : World → ℕ → Node → Type 0
+IsParked w p n = HasComeSo w n.pid (caller_place w.script p n.caller) true
 
 -- it is carried out, with this reply: the journal has its process where the node will be
 abbrev pub IsMade : World → ℕ → Node → Call → Reply → Type 0
@@ -194,7 +219,7 @@ has_call p pid to sender (frames.ExitTo parcel) = nat_eq parcel.pid pid
 has_call p pid to sender frame = false
 
 abbrev pub item_has_call : ℕ → ℕ → Held → Bool
-item_has_call p pid (Request asked) = nat_eq asked.caller p
+item_has_call p pid (Request asked) = nat_eq asked.caller p && not (is_withdrawal asked.call)
 item_has_call p pid (EndingOf parcel) = nat_eq parcel.pid pid
 
 -- it is the call that was asked
@@ -251,14 +276,94 @@ pub record HasOneAnswer (w : World) (p : ℕ) (n : Node) (reply : Reply) : Type 
       → (ticket ≡ n.caller.ticket) × (other ≡ reply)
   pub nowhere : places_with w p n ≡ 0
 
--- A call under way that isn't carried out is in exactly one place. One that is carried out and ends nothing has exactly
--- one Answer on its way. One that is carried out and ended its process is nowhere.
+-- how often a call of node p is among those who wait: in nodes' tables, and in deeds on their way
+abbrev pub waiters_in : ℕ → Body → ℕ
+waiters_in p body = count_by (λ (v : Waiting). nat_eq v.caller p) (waiters_of body)
+
+abbrev pub waiters_in_bodies : ℕ → Numbered Body → ℕ
+waiters_in_bodies p bodies = sum_by (λ e. waiters_in p e.1) bodies
+
+abbrev pub waiters_at : ℕ → Node → ℕ
+waiters_at p n = waiters_in_bodies p n.deeds.queues + waiters_in_bodies p n.deeds.sets
+
+abbrev pub waiters_in_deed : ℕ → Option Body → ℕ
+waiters_in_deed p None = 0
+waiters_in_deed p (Some body) = waiters_in p body
+
+abbrev pub waiters_on_way : ℕ → Frame → ℕ
+waiters_on_way p frame = sum_by (λ deed. waiters_in_deed p (read_deed deed)) (deeds_in frame)
+
+abbrev pub waiting_places : World → ℕ → ℕ
+waiting_places w p =
+    sum_by (waiters_at p) w.nodes
+    + sum_by (λ to. sum_by (λ sender. sum_by (waiters_on_way p) (stream w to sender)) (nodes_of w)) (nodes_of w)
+
+-- It is nowhere else: in no frame, in no list, and no reply is on its way.
+pub record IsInNoPlace (w : World) (p : ℕ) (n : Node) : Type 0 where
+  pub nowhere : places_with w p n ≡ 0
+  pub unanswered : answers_to w p ≡ 0
+
+-- A call that is parked is a `waitpid` at its caller, or waits at one queue or set, wherever the deed of that is.
+pub data WaitsSomewhere (w : World) (p : ℕ) (n : Node) (call : Call) : Type 0 where
+  here : waits_at n.pid call ≡ Proc n.pid → waiting_places w p ≡ 0 → WaitsSomewhere w p n call
+  there : (name : Name) (body : Body) → waits_at n.pid call ≡ name → IsSomewhere w name body
+      → Contains (waiters_of body) (waiting_as (asked_here n call)) → waiting_places w p ≡ 1
+      → WaitsSomewhere w p n call
+
+-- A call under way that isn't carried out is in exactly one place. One that is parked waits. One that is carried out
+-- and ends nothing has exactly one Answer on its way. One that is carried out and ended its process is nowhere.
 pub data IsUnderWay (w : World) (k : Kernel) (p : ℕ) (n : Node) (call : Call) : Type 0 where
-  waits : IsToBeMade w p n → IsInOnePlace w p n call → IsUnderWay w k p n call
-  answered : (reply : Reply) → is_end call ≡ false → IsMade w p n call reply → HasOneAnswer w p n reply
+  waits : IsToBeMade w p n → IsInOnePlace w p n call → waiting_places w p ≡ 0 → IsUnderWay w k p n call
+  parked : IsParked w p n → may_park call ≡ true → IsInNoPlace w p n → WaitsSomewhere w p n call
       → IsUnderWay w k p n call
+  answered : (reply : Reply) → is_end call ≡ false → IsMade w p n call reply → HasOneAnswer w p n reply
+      → waiting_places w p ≡ 0 → IsUnderWay w k p n call
   ended : (last : Place) → is_end call ≡ true → HasComeTo w n.pid last → last.left ≡ []
       → living_at k n.pid ≡ None → places_with w p n ≡ 0 → answers_to w p ≡ 0 → IsUnderWay w k p n call
+
+-- each who waits is a call under way that is parked
+pub record WaitersAreCalls (w : World) (k : Kernel) : Type 0 where
+  pub are : (name : Name) (body : Body) (v : Waiting) → IsSomewhere w name body → Contains (waiters_of body) v
+      → (n : Node) × (call : Call) × HasNode w v.caller n × (n.caller.under_way ≡ Some call)
+      × (v ≡ waiting_as (asked_here n call)) × IsParked w v.caller n
+
+-- ---- withdrawals
+
+abbrev pub cancels_call : Node → Frame → Bool
+cancels_call n (frames.Cancel asked) = nat_eq asked.caller n.number && nat_eq asked.ticket n.caller.ticket
+cancels_call n frame = false
+
+abbrev pub item_cancels : Node → Held → Bool
+item_cancels n (Request asked) =
+    nat_eq asked.caller n.number && (nat_eq asked.ticket n.caller.ticket && is_withdrawal asked.call)
+item_cancels n (EndingOf parcel) = false
+
+-- how many withdrawals of the call under way there are
+abbrev pub cancels_of : World → Node → ℕ
+cancels_of w n = frames_that w (λ to sender. cancels_call n) + items_that w (item_cancels n)
+
+-- The call goes to a node that leaves, on a name that the leader doesn't know: it will not wait there, since its number
+-- is still that node's to give.
+pub record GoesToNobody (w : World) (n : Node) (call : Call) : Type 0 where
+  pub node : ℕ
+  pub on_way : IsOnWay w node 1 (frames.Forward (asked_here n call))
+  pub leader : Node
+  pub is_leader : HasNode w 1 leader
+  pub leaves : stays leader.leader.directory node ≡ false
+  pub unknown : is_known leader.leader.directory (waits_at n.pid call) ≡ false
+
+-- A call without a reply that may have to wait: where it waits at a queue or a set, each withdrawal of it is of a
+-- process that a signal has struck; and of a process that is doomed there is exactly one, or none is needed. (A
+-- `waitpid` is interrupted at its caller, without any.)
+pub record IsInterruptedRightly (w : World) (k : Kernel) (n : Node) (call : Call) (alive : Alive) : Type 0 where
+  pub struck : is_object (waits_at n.pid call) ≡ true → 1 ≤ cancels_of w n → alive.marks.struck ≡ true
+  pub one : alive.row.signals.doom ≢ None → (cancels_of w n ≡ 1) ⊎ GoesToNobody w n call
+
+abbrev pub WithdrawalsFit : World → Kernel → Type 0
+WithdrawalsFit w k =
+    (p : ℕ) (n : Node) (call : Call) (alive : Alive) → HasNode w p n → n.caller.under_way ≡ Some call
+    → may_park call ≡ true → answers_to w p ≡ 0 → living_at k n.pid ≡ Some alive
+    → IsInterruptedRightly w k n call alive
 
 -- ---- what a doomed process may still do
 
@@ -266,10 +371,10 @@ pub data IsUnderWay (w : World) (k : Kernel) (p : ℕ) (n : Node) (call : Call) 
 -- doesn't end it as doomed, may make this one.
 pub record AllowancesFit (w : World) (k : Kernel) : Type 0 where
   pub free : (pid : ℕ) (alive : Alive) → living_at k pid ≡ Some alive → alive.row.signals.doom ≡ None
-      → alive.allowance ≡ Free
+      → alive.marks.allowance ≡ Free
   pub one : (p : ℕ) (n : Node) (call : Call) (alive : Alive) → HasNode w p n → n.caller.under_way ≡ Some call
       → is_killed call ≡ false → IsToBeMade w p n → living_at k n.pid ≡ Some alive
-      → alive.row.signals.doom ≢ None → alive.allowance ≡ One
+      → alive.row.signals.doom ≢ None → alive.marks.allowance ≡ One
 
 -- ---- the projection
 
@@ -282,4 +387,6 @@ pub record Projects (w : World) (k : Kernel) : Type 0 where
       → IsWithItsParent w k pid ending
   pub calls : (p : ℕ) (n : Node) (call : Call) → HasNode w p n → n.caller.under_way ≡ Some call
       → IsUnderWay w k p n call
+  pub waiters : WaitersAreCalls w k
+  pub withdrawals : WithdrawalsFit w k
   pub allowances : AllowancesFit w k

@@ -11,7 +11,7 @@ use Rattle.world_model.specs.Node.{Node, first_node, is_leader, opening_leader, 
 use Rattle.world_model.specs.Run.{IsReachableWorld, Runs}
 use Rattle.world_model.specs.Step.{Step}
 use Rattle.world_model.specs.Starting.{run}
-use Rattle.world_model.specs.Turn.{may_come, take_by_kind, take_frame}
+use Rattle.world_model.specs.Turn.{may_come, take_by_rules, take_frame}
 use Rattle.world_model.specs.World.{World, after_turn, is_enabled, node_at, node_count, numbers, opening_world, runs_at, step, world_after}
 use Rattle.world_laws.specs.Invariant.{IsShaped}
 use Rattle.world_laws.specs.Sights.{node_of}
@@ -121,7 +121,7 @@ module _ (script : Script) (sound : IsSoundScript script) where
       (sym (turn-with take_frame script w p q t.frame t.rest shape h) ∙ steps)
       (λ other.
       of-those (IsFollower script (node_of w p) other) (may_come (node_of w p) q t.frame)
-      (take_by_kind script (node_of w p) q t.frame)
+      (take_by_rules script (node_of w p) q t.frame)
       (take-turn-follows script (node_of w p) other q t.frame))
 
   opened : (count k i : ℕ) (m : Node) → slice_get (map opening_node (numbers k count)) i ≡ Some m

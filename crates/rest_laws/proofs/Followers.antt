@@ -2,7 +2,7 @@
 -- parts of its rules.
 use Rattle.std.proofs.Common.{◌≡◌, ℕ, ◌+◌, true, false, not, ◌&&◌, nat_eq, List, [], ◌∷◌, fold, Option, Some, None, Result, Ok, Err, refl, ap, sym, ◌∙◌}
 use Rattle.std.specs.Prelude.{if◌then◌else◌}
-use Rattle.std.specs.Option.{option_and_then}
+use Rattle.std.specs.Option.{option_and_then, option_map}
 use Rattle.std.proofs.lemmas.Bool.{false≢true}
 use Rattle.pico_base.specs.declared.call.Call.{Call}
 use Rattle.pico_base.specs.declared.call.Call.TheVariants as calls
@@ -13,6 +13,7 @@ use Rattle.pico_base.specs.declared.numbers.Kind.TheVariants as kinds
 use Rattle.pico_base.specs.declared.numbers.Name.{Name}
 use Rattle.pico_base.specs.declared.numbers.Name.TheVariants.{Proc, Msg, Sem}
 use Rattle.pico_base.specs.declared.reply.Errno.{Errno}
+use Rattle.pico_base.specs.declared.reply.Outcome.{Outcome}
 use Rattle.pico_base.specs.declared.reply.Reply.{Reply}
 use Rattle.pico_base.specs.declared.reply.Reply.TheVariants as replies
 use Rattle.pico_base.specs.declared.script.Script.{Script}
@@ -21,28 +22,32 @@ use Rattle.rpc_frame.specs.declared.asked.Asked.{Asked}
 use Rattle.rpc_frame.specs.declared.frame.Frame.{Frame}
 use Rattle.rpc_frame.specs.declared.frame.Frame.TheVariants as frames
 use Rattle.kernel_laws.proofs.Plain.{Of, by_test, of-map, of-next, of-some, of-test}
+use Rattle.kernel_model.specs.Effect.{reply_alone}
 use Rattle.kernel_model.specs.Fitting.{child_vars}
 use Rattle.kernel_model.specs.Numbers.{is_u32}
 use Rattle.kernel_model.specs.Queue.{empty_queue}
 use Rattle.kernel_model.specs.Row.{Row}
 use Rattle.kernel_model.specs.SemaphoreSet.{SemaphoreSet, new_set}
-use Rattle.kernel_model.specs.Waiting.{is_waiting}
+use Rattle.waiting_model.specs.declared.callers.Wake.{Wake}
+use Rattle.waiting_model.specs.Calls.{is_withdrawal, may_park}
+use Rattle.waiting_model.specs.Waiters.{unawaited}
 use Rattle.node_model.specs.Bodies.{AQueue, ASet, Body}
 use Rattle.node_model.specs.Cache.{owner_in}
 use Rattle.node_model.specs.Caller.{caller_place, due_call, start_call}
 use Rattle.node_model.specs.Directory.{place_name, stays}
+use Rattle.node_model.specs.Entries.{outcome_with}
 use Rattle.node_model.specs.Kinds.{for_kind, put_all, put_named}
 use Rattle.node_model.specs.Leases.{is_used_up}
-use Rattle.node_model.specs.Serving.{Served, child_body, has_read, no_such_name, parent_body, serve}
+use Rattle.node_model.specs.Serving.{Served, child_body, no_such_name, parent_body, serve, waiting_as}
 use Rattle.node_model.specs.Spelling.{pack}
-use Rattle.node_model.specs.Watches.{moves_to, with_read}
+use Rattle.node_model.specs.Watches.{last_move, with_reads}
 use Rattle.world_model.specs.Lives.{send_to_leader}
 use Rattle.world_model.specs.Node.{Node, asked_here, can_run, holds, is_leader, own_row, under_way_as}
 use Rattle.world_model.specs.Numbers.{Taken, fork_with, make, make_object, make_set, make_taken, make_with, take_from, take_from_next, take_number, tell_place}
 use Rattle.world_model.specs.Routes.{route_call}
-use Rattle.world_model.specs.Serving.{grant, move_to, note_read, serve_asked, serve_asked_with, serve_nobody}
+use Rattle.world_model.specs.Serving.{grant, has_room, is_struck, move_to, note_reads, serve_asked, serve_asked_with, serve_nobody}
 use Rattle.world_model.specs.Starting.{act, ask, carry_out_own, end_leader, leave, request, run, start, start_at, start_by, start_due, start_end, start_making, start_own, start_set, with_look}
-use Rattle.world_model.specs.Step.{Step, carry_out, enter, reply_here, reply_to, send, step_to, with_deeds, with_directory, with_node}
+use Rattle.world_model.specs.Step.{Step, carry_out, carry_out_waking, enter_with, reply_at, reply_here, reply_if, send, step_to, wake_all, wake_one, with_deeds, with_directory, with_node, with_strike}
 
 module _ (script : Script) (n : Node) (other : is_leader n ≡ false) where
   -- The step's node has the number of this one, and knows the same of the leader's.
@@ -57,7 +62,7 @@ module _ (script : Script) (n : Node) (other : is_leader n ≡ false) where
   leads-not s k = ap (λ m. nat_eq m 1) k.number ∙ other
 
   -- where the leader alone does something nothing is to show
-  not-done : {A : Type 0} (s : Step) → IsFollower s → is_leader s.node ≡ true → A
+  pub not-done : {A : Type 0} (s : Step) → IsFollower s → is_leader s.node ≡ true → A
   not-done s k e = absurd (false≢true (sym (leads-not s k) ∙ e))
 
   -- ---- what a step is made of
@@ -77,30 +82,47 @@ module _ (script : Script) (n : Node) (other : is_leader n ≡ false) where
   all-sent-follow (f ∷ fs) s k = all-sent-follow fs (send_to_leader s f) (sent-follows s 1 f k)
 
   -- an entry is made
-  pub entered-follows : (s : Step) (pid : ℕ) (call : Call) (reply : Reply) → IsFollower s
-      → IsFollower (enter s pid call reply)
-  entered-follows s pid call reply k = record { leader = k.leader; number = k.number }
+  pub entered-follows : (s : Step) (pid : ℕ) (call : Call) (outcome : Outcome) → IsFollower s
+      → IsFollower (enter_with s pid call outcome)
+  entered-follows s pid call outcome k = record { leader = k.leader; number = k.number }
 
-  reply-here-follows : (s : Step) (reply : Reply) (o : Option Call) → IsFollower s
+  pub reply-here-follows : (s : Step) (reply : Reply) (o : Option Call) → IsFollower s
       → IsFollower (reply_here script s reply o)
   reply-here-follows s reply None k = k
   reply-here-follows s reply (Some call) k = record { leader = k.leader; number = k.number }
 
-  reply-to-follows : (s : Step) (asked : Asked) (reply : Reply) → IsFollower s
-      → IsFollower (reply_to script s asked reply)
-  reply-to-follows s asked reply k =
-      by_test IsFollower (nat_eq asked.caller s.node.number)
-      (reply_here script s reply (under_way_as s.node asked.ticket))
-      (send s asked.caller (frames.Answer asked.ticket reply))
-      (λ _. reply-here-follows s reply (under_way_as s.node asked.ticket) k)
-      (λ _. sent-follows s asked.caller (frames.Answer asked.ticket reply) k)
+  reply-at-follows : (s : Step) (caller ticket : ℕ) (reply : Reply) → IsFollower s
+      → IsFollower (reply_at script s caller ticket reply)
+  reply-at-follows s caller ticket reply k =
+      by_test IsFollower (nat_eq caller s.node.number) (reply_here script s reply (under_way_as s.node ticket))
+      (send s caller (frames.Answer ticket reply))
+      (λ _. reply-here-follows s reply (under_way_as s.node ticket) k)
+      (λ _. sent-follows s caller (frames.Answer ticket reply) k)
 
   -- a call is carried out
   pub carry-out-follows : (s : Step) (asked : Asked) (reply : Reply) → IsFollower s
       → IsFollower (carry_out script s asked reply)
   carry-out-follows s asked reply k =
-      reply-to-follows (enter s asked.pid asked.call reply) asked reply
-      (entered-follows s asked.pid asked.call reply k)
+      reply-at-follows (enter_with s asked.pid asked.call (reply_alone reply)) asked.caller asked.ticket reply
+      (entered-follows s asked.pid asked.call (reply_alone reply) k)
+
+  -- also one that wakes others, or has no reply yet
+  woken-follow : (wakes : List Wake) (s : Step) → IsFollower s → IsFollower (wake_all script s wakes)
+  woken-follow [] s k = k
+  woken-follow (w ∷ wakes) s k =
+      woken-follow wakes (wake_one script s w) (reply-at-follows s w.caller w.ticket w.reply k)
+
+  reply-if-follows : (s : Step) (asked : Asked) (own : Option Reply) → IsFollower s
+      → IsFollower (reply_if script s asked own)
+  reply-if-follows s asked None k = k
+  reply-if-follows s asked (Some reply) k = reply-at-follows s asked.caller asked.ticket reply k
+
+  waking-follows : (s : Step) (asked : Asked) (own : Option Reply) (wakes : List Wake) → IsFollower s
+      → IsFollower (carry_out_waking script s asked own wakes)
+  waking-follows s asked own wakes k =
+      let entered : Step = enter_with s asked.pid asked.call (outcome_with own wakes)
+      in woken-follow wakes (reply_if script entered asked own)
+      (reply-if-follows entered asked own (entered-follows s asked.pid asked.call (outcome_with own wakes) k))
 
   -- ---- serving
 
@@ -111,29 +133,30 @@ module _ (script : Script) (n : Node) (other : is_leader n ≡ false) where
       (send s 1 (frames.Suggest name to)) (λ e. not-done s k e)
       (λ _. sent-follows s 1 (frames.Suggest name to) k)
 
-  note-read-follows : (s : Step) (name : Name) (reader : ℕ) → IsFollower s → IsFollower (note_read s name reader)
-  note-read-follows s name reader k =
+  note-reads-follows : (s : Step) (name : Name) (readers : List ℕ) → IsFollower s
+      → IsFollower (note_reads s name readers)
+  note-reads-follows s name readers k =
       move-to-follows
-      (with_node s (record s.node { watches = with_read s.node.watches s.node.number name reader })) name
-      (moves_to s.node.watches s.node.number name reader)
-      (record { leader = k.leader; number = k.number })
+      (with_node s (record s.node { watches = with_reads s.node.watches s.node.number name readers })) name
+      (last_move s.node.watches s.node.number name readers) (record { leader = k.leader; number = k.number })
 
   serve-asked-with-follows : (s : Step) (name : Name) (asked : Asked) (served : Served) → IsFollower s
       → IsFollower (serve_asked_with script s name asked served)
   serve-asked-with-follows s name asked served k =
-      let done : Step = carry_out script (with_deeds s (put_all s.node.deeds served.changes)) asked served.reply
-      in let done_follows : IsFollower done =
-      carry-out-follows (with_deeds s (put_all s.node.deeds served.changes)) asked served.reply
-      (record { leader = k.leader; number = k.number })
-      in by_test IsFollower (has_read asked.call served.reply) (note_read done name asked.caller) done
-      (λ _. note-read-follows done name asked.caller done_follows) (λ _. done_follows)
+      let struck : Step = with_strike s (is_struck s.node name asked.call)
+      in let held : Step = with_deeds struck (put_all s.node.deeds served.changes)
+      in note-reads-follows (carry_out_waking script held asked served.own served.wakes) name served.readers
+      (waking-follows held asked served.own served.wakes (record { leader = k.leader; number = k.number }))
 
   -- a call is served
   pub serve-asked-follows : (s : Step) (name : Name) (asked : Asked) → IsFollower s
       → Follows (serve_asked script s name asked)
   serve-asked-follows s name asked k =
-      of-map IsFollower (serve s.node.deeds asked.pid asked.call) (serve_asked_with script s name asked)
-      (λ served _. serve-asked-with-follows s name asked served k)
+      by_test Follows (has_room s name asked)
+      (option_map (serve_asked_with script s name asked) (serve s.node.deeds (waiting_as asked))) (Some s)
+      (λ _. of-map IsFollower (serve s.node.deeds (waiting_as asked)) (serve_asked_with script s name asked)
+      (λ served _. serve-asked-with-follows s name asked served k))
+      (λ _. k)
 
   -- or names nothing
   pub serve-nobody-follows : (s : Step) (name : Name) (asked : Asked) → IsFollower s
@@ -183,7 +206,7 @@ module _ (script : Script) (n : Node) (other : is_leader n ≡ false) where
   make-set-follows : (s : Step) (call : Call) (number : ℕ) (r : Result SemaphoreSet Errno) → IsFollower s
       → Follows (make_set script s call number r)
   make-set-follows s call number (Err e) k = tt
-  make-set-follows s call number (Ok set) k = make-object-follows s call (Sem number) (ASet set) number k
+  make-set-follows s call number (Ok set) k = make-object-follows s call (Sem number) (ASet (unawaited set)) number k
 
   make-with-follows : (s : Step) (call : Call) (number : ℕ) → IsFollower s
       → Follows (make_with script s call number)
@@ -191,7 +214,7 @@ module _ (script : Script) (n : Node) (other : is_leader n ≡ false) where
       of-map IsFollower (own_row s.node) (fork_with script s (calls.Fork block) block number)
       (λ row _. fork-with-follows s (calls.Fork block) block number row k)
   make-with-follows s (calls.MsgGet key create excl) number k =
-      make-object-follows s (calls.MsgGet key create excl) (Msg number) (AQueue empty_queue) number k
+      make-object-follows s (calls.MsgGet key create excl) (Msg number) (AQueue (unawaited empty_queue)) number k
   make-with-follows s (calls.SemGet key count create excl) number k =
       make-set-follows s (calls.SemGet key count create excl) number (new_set count) k
   make-with-follows s call number k = tt
@@ -210,9 +233,9 @@ module _ (script : Script) (n : Node) (other : is_leader n ≡ false) where
 
   act-follows : (s : Step) (call : Call) → IsFollower s → Follows (act script s call)
   act-follows s call k =
-      of-map IsFollower (serve s.node.deeds s.node.pid call) (carry_out_own script s call)
-      (λ served _. carry-out-follows (with_deeds s (put_all s.node.deeds served.changes)) (asked_here s.node call)
-      served.reply (record { leader = k.leader; number = k.number }))
+      of-map IsFollower (serve s.node.deeds (waiting_as (asked_here s.node call))) (carry_out_own script s call)
+      (λ served _. waking-follows (with_deeds s (put_all s.node.deeds served.changes)) (asked_here s.node call)
+      served.own served.wakes (record { leader = k.leader; number = k.number }))
 
   start-making-follows : (s : Step) (call : Call) (kind : Kind) → IsFollower s
       → Follows (start_making script s call kind)
@@ -251,10 +274,14 @@ module _ (script : Script) (n : Node) (other : is_leader n ≡ false) where
   start-at-follows : (s : Step) (call : Call) (name : Name) → IsFollower s → Follows (start_at script s call name)
   start-at-follows s call name k =
       by_test Follows (holds s.node name) (serve_asked script s name (asked_here s.node call))
-      (request script (with_node s (with_look s.node name)) call (owner_in s.node.cache name))
+      (if may_park call then ask script s call
+      else request script (with_node s (with_look s.node name)) call (owner_in s.node.cache name))
       (λ _. serve-asked-follows s name (asked_here s.node call) k)
+      (λ _. by_test Follows (may_park call) (ask script s call)
+      (request script (with_node s (with_look s.node name)) call (owner_in s.node.cache name))
+      (λ _. ask-follows s call k)
       (λ _. request-follows (with_node s (with_look s.node name)) call (owner_in s.node.cache name)
-      (record { leader = k.leader; number = k.number }))
+      (record { leader = k.leader; number = k.number })))
 
   start-end-follows : (s : Step) (call : Call) (row : Row) → IsFollower s → IsFollower (start_end script s call row)
   start-end-follows s call row k =
@@ -271,7 +298,7 @@ module _ (script : Script) (n : Node) (other : is_leader n ≡ false) where
 
   start-follows : (row : Row) (call : Call) → Follows (start script n row call)
   start-follows row call =
-      by_test Follows (is_waiting call) None
+      by_test Follows (is_withdrawal call) None
       (start_by script (step_to (record n { caller = start_call n.caller call })) call row (home_of n.pid call))
       (λ _. tt)
       (λ _. start-by-follows (step_to (record n { caller = start_call n.caller call })) call row (home_of n.pid call)

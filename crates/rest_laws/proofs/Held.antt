@@ -7,6 +7,7 @@ use Rattle.pico_base.specs.declared.numbers.Name.TheVariants.{Proc}
 use Rattle.pico_base.specs.declared.script.Script.{Script}
 use Rattle.rpc_frame.specs.declared.deed.Parcel.{Parcel}
 use Rattle.kernel_laws.proofs.Plain.{from_some, not_some}
+use Rattle.entry_laws.specs.Entering.{is_used_name}
 use Rattle.node_model.specs.declared.held.Held.{Held}
 use Rattle.node_model.specs.declared.held.Held.TheVariants.{Ending}
 use Rattle.node_model.specs.Bodies.{Body, Deeds}
@@ -112,7 +113,9 @@ module _ (script : Script) (w : World) (b : Beside) (holds : Holds script w [] b
         begins-last : (sight name).begins h ≡ old.last
         begins-last =
             some-hold ((sight name).begins h) old.last
-            (sym (ap (λ fs. play ((sight name).begins h) (plays b.call name fs)) (empty h 1)) ∙ old.plays)
+            (sym (ap (λ fs. play ((sight name).begins h) (plays (is_used_name b.kernel name) b.call name fs))
+            (empty h 1))
+            ∙ old.plays)
 
         gone-on : is_has ((sight name).begins h) ≡ false
         gone-on = ap is_has begins-last ∙ old.agrees ∙ ap (is_there h) belief-is

@@ -5,7 +5,12 @@ pub mod OneReplay
 pub mod Senders
 pub mod Streams
 pub mod Held
+pub mod Nodes
 pub mod Whole
+pub mod Undoomed
+pub mod Living
+pub mod Stalled
+pub mod NoWaits
 pub mod Followers
 pub mod FollowerTurns
 pub mod FollowerRuns

@@ -16,9 +16,10 @@ use Rattle.rpc_frame.specs.declared.asked.Asked.{Asked}
 use Rattle.rpc_frame.specs.declared.deed.Parcel.{Parcel}
 use Rattle.rpc_frame.specs.declared.frame.Frame.{Frame}
 use Rattle.rpc_frame.specs.declared.frame.Frame.TheVariants as frames
+use Rattle.entry_laws.specs.Entering.{is_used_name}
 use Rattle.node_model.specs.Bodies.{Body}
 use Rattle.node_model.specs.Directory.{has_deed_of}
-use Rattle.node_model.specs.Kinds.{get_named, is_same_name}
+use Rattle.node_model.specs.Kinds.{get_named, is_object, is_same_name}
 use Rattle.world_model.specs.Census.{brings}
 use Rattle.world_model.specs.Node.{Node, Stage, Unborn, Living, Leaving, Left, Over, is_born, is_unborn, unborn_node}
 use Rattle.world_model.specs.Run.{IsAtRest}
@@ -28,7 +29,7 @@ use Rattle.world_laws.specs.Families.{HoldsIn, NodeHolds, is_first_stage}
 use Rattle.world_laws.specs.Invariant.{FramesFit, Holds, MayBe}
 use Rattle.world_laws.specs.Names.{IsBringer, NameHolds, NameSight, OneIf, comes_to, forker, held_at, is_stream_of, name_sight}
 use Rattle.world_laws.specs.Places.{Beside, DeedPlace, Unmade, InTable, InCheckpoint, InGrant, InGiveBack, InLeft, InKept, InHand, InExitTo}
-use Rattle.world_laws.specs.Plays.{Comes, Goes, Has, Hold, IsNeeded, Lacks, PlayStep, brings_checkpoint, begin, is_has, is_sent_by_place, play, plays, steps_if, steps_of}
+use Rattle.world_laws.specs.Plays.{Comes, Goes, Has, Hold, IsNeeded, Lacks, PlayStep, brings_checkpoint, begin, is_has, is_lasting, needs_by, play, plays, steps_if, steps_of}
 use Rattle.world_laws.specs.Sights.{frames_to, is_born_in, is_born_stage, node_of, stage_of}
 use Rattle.world_laws.specs.Ways.{Way, here, tells, collected, over, gone, is_recall_all, knows_parent, sent, way_sight}
 use Rattle.world_laws.proofs.NameFacts.{begins-without, play-goes, play-needs}
@@ -262,6 +263,8 @@ module _ (script : Script) (w : World) (b : Beside) (holds : Holds script w [] b
     from-other q other frames.RecallAll m a = absurd (other m)
     from-other q other (frames.Left parcel) m a = absurd (not-first m)
     from-other q other (frames.ExitTo parcel) m a = absurd (other m)
+    from-other q other (frames.Cancel asked) (inl m) a = absurd (not-first m.0)
+    from-other q other (frames.Cancel asked) (inr m) a = absurd (other m.0)
 
     other-empty : (q : ℕ) → q ≢ 1 → frames_to w p q ≡ []
     other-empty q other =
@@ -273,6 +276,12 @@ module _ (script : Script) (w : World) (b : Beside) (holds : Holds script w [] b
 
     abbrev sight : Name → NameSight
     sight name = name_sight script w [] b name
+
+    abbrev used : Name → Bool
+    used name = is_used_name b.kernel name
+
+    abbrev lasting : Asked → Name → Bool
+    lasting asked name = used name && (is_object name && is_lasting asked)
 
     -- it holds no name, and none comes from who forks it
     comes-not : (name : Name) → comes_to script w name p ≡ false
@@ -295,31 +304,31 @@ module _ (script : Script) (w : World) (b : Beside) (holds : Holds script w [] b
 
     -- the leader's frames play without the deed at first
     plays-lacking : (name : Name) (f : Frame) (left : List Frame) (s : PlayStep) → frames_to w p 1 ≡ f ∷ left
-        → steps_of b.call name f ≡ s ∷ []
-        → (last : Hold) × (play Lacks (s ∷ plays b.call name left) ≡ Some last)
+        → steps_of (used name) b.call name f ≡ s ∷ []
+        → (last : Hold) × (play Lacks (s ∷ plays (used name) b.call name left) ≡ Some last)
     plays-lacking name f left s e step =
         let known : NameHolds script b.pids (is_born_in w) name (sight name) = holds.names name
         in let old = known.plays p low-node
         in (
           old.last,
-          sym (ap (λ h. play h (plays b.call name (frames_to w p 1))) (begins-lacking name)
-              ∙ ap (λ fs. play Lacks (plays b.call name fs)) e
-              ∙ ap (λ ss. play Lacks (ss ++ plays b.call name left)) step)
+          sym (ap (λ h. play h (plays (used name) b.call name (frames_to w p 1))) (begins-lacking name)
+              ∙ ap (λ fs. play Lacks (plays (used name) b.call name fs)) e
+              ∙ ap (λ ss. play Lacks (ss ++ plays (used name) b.call name left)) step)
               ∙ old.plays,
         )
 
     -- so it has nothing that a frame needs
     needs-nothing : (name : Name) (f : Frame) (left : List Frame) → frames_to w p 1 ≡ f ∷ left
-        → steps_of b.call name f ≡ IsNeeded ∷ [] → ⊥
+        → steps_of (used name) b.call name f ≡ IsNeeded ∷ [] → ⊥
     needs-nothing name f left e step =
         let old = plays-lacking name f left IsNeeded e step
-        in lacks-is-not-has (play-needs Lacks old.0 (plays b.call name left) old.1).0
+        in lacks-is-not-has (play-needs Lacks old.0 (plays (used name) b.call name left) old.1).0
 
     no-recall : (name : Name) (left : List Frame) → frames_to w p 1 ≡ frames.Recall name ∷ left → ⊥
     no-recall name left e =
         let old =
         plays-lacking name (frames.Recall name) left Goes e (ap (λ t. steps_if t Goes) (same-name name name refl))
-        in lacks-is-not-has (play-goes Lacks old.0 (plays b.call name left) old.1).0
+        in lacks-is-not-has (play-goes Lacks old.0 (plays (used name) b.call name left) old.1).0
 
     no-recall-all : (left : List Frame) → frames_to w p 1 ≡ frames.RecallAll ∷ left → ⊥
     no-recall-all left e = by-way (holds.ways p low-node high)
@@ -407,9 +416,9 @@ module _ (script : Script) (w : World) (b : Beside) (holds : Holds script w [] b
                 (is-at-maker script w b holds p asked left h caller.low caller.high false g it.name it.on refl))
             by-name true g it =
                 needs-nothing it.name (frames.Forward asked) left e
-                (ap (λ t. steps_if (t && is_sent_by_place (b.call asked.caller)) IsNeeded)
+                (ap (λ t. steps_if (t && needs_by (lasting asked it.name) (b.call asked.caller)) IsNeeded)
                 (call-on it.name (home_of asked.pid asked.call) it.on it.name ∙ same-name it.name it.name refl)
-                ∙ ap (λ c. steps_if (is_sent_by_place c) IsNeeded) g)
+                ∙ ap (λ c. steps_if (needs_by (lasting asked it.name) c) IsNeeded) g)
 
     from-first : (f : Frame) (left : List Frame) → frames_to w p 1 ≡ f ∷ left → MayBe script (is_born_in w) p 1 f
         → is_about p p 1 f ≡ false → is_checkpoint f ≡ true
@@ -431,6 +440,8 @@ module _ (script : Script) (w : World) (b : Beside) (holds : Holds script w [] b
     from-first frames.RecallAll left e m a = absurd (no-recall-all left e)
     from-first (frames.Left parcel) left e m a = absurd (not-first m)
     from-first (frames.ExitTo parcel) left e m a = absurd (no-exit parcel left e)
+    from-first (frames.Cancel asked) left e (inl m) a = absurd (not-first m.0)
+    from-first (frames.Cancel asked) left e (inr m) a = absurd (not-born m.1)
 
     first-empty : frames_to w p 1 ≡ []
     first-empty =

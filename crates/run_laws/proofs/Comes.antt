@@ -1,6 +1,6 @@
 -- In the world of a run each frame that a node may take passes the test of what may come: it is within the limits,
 -- there is room for what it makes the node send, and no process comes whose number the node has still to give.
-use Rattle.std.proofs.Common.{◌≡◌, ℕ, ◌≤◌, Bool, true, false, not, ◌&&◌, if◌then◌else◌, List, [], ◌∷◌, length, refl, ap, sym, subst, ◌∙◌, arith}
+use Rattle.std.proofs.Common.{◌≡◌, ℕ, ◌≤◌, Bool, true, false, not, ◌&&◌, List, [], ◌∷◌, length, refl, ap, sym, subst, ◌∙◌, arith}
 use Rattle.std.specs.List.{AllByRecursion}
 use Rattle.std.proofs.lemmas.Bool.{lt-ltb}
 use Rattle.pico_base.specs.declared.numbers.Name.{Name}
@@ -13,7 +13,6 @@ use Rattle.rpc_frame.specs.declared.frame.Frame.TheVariants as frames
 use Rattle.frame_bytes.specs.Limits.{is_frame}
 use Rattle.kernel_model.specs.Script.{IsSoundScript}
 use Rattle.entry_laws.specs.Entering.{is_used_name}
-use Rattle.node_model.specs.Bodies.{body_in}
 use Rattle.node_model.specs.Kinds.{kind_of, number_of}
 use Rattle.node_model.specs.Leases.{leases_hold}
 use Rattle.world_model.specs.Ends.{names_in}
@@ -34,7 +33,7 @@ use Rattle.rule_laws.proofs.ends.Lefts.{IsBroughtHere, is-brought}
 use Rattle.rule_laws.proofs.ends.Releases.{on-its-way-is-used}
 use Rattle.route_laws.proofs.exits.Arrivals.{has-is-one, is_one_of}
 use Rattle.route_laws.proofs.exits.ExitTos.{none-held-of}
-use Rattle.bound_laws.specs.Bounded.{IsBounded, NodeIsBounded}
+use Rattle.bound_laws.specs.Bounded.{IsBounded}
 use Rattle.bound_laws.proofs.Ready.{Ready, bounded-is-ready}
 use Rattle.limit_laws.specs.Within.{IsFrameWithin}
 use Rattle.limit_laws.proofs.Turns.{sent-frames-pass}
@@ -63,7 +62,7 @@ module _ (script : Script) (sound : IsSoundScript script) (w : World) (b : Besid
     where
       used : (name : Name) → is_one_of name (names_in parcel) ≡ true → is_used_name b.kernel name ≡ true
       used name e =
-          let at : IsBroughtHere b.pids name (body_in b.kernel name) (b.deed name) q parcel =
+          let at : IsBroughtHere b.pids name (b.body name) (b.deed name) q parcel =
           is-brought script w b holds q parcel rest h name (sym (has-is-one name parcel) ∙ e)
           in on-its-way-is-used script w b holds ready.at_nodes name q at.deed_is
 

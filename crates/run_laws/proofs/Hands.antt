@@ -1,11 +1,11 @@
 -- In the middle of an event of the leader each call first in its hand has a route, and each parcel comes to its end,
 -- where the step on the way is good.
-use Rattle.std.proofs.Common.{List, [], ◌∷◌, inl, inr, arith}
+use Rattle.std.proofs.Common.{◌≡◌, true, false, List, [], ◌∷◌, Option, Some, None, is_some, refl, ap, sym, subst, arith}
 use Rattle.std.specs.List.{AllByRecursion}
 use Rattle.pico_base.specs.declared.numbers.Name.{Name}
 use Rattle.node_model.specs.Directory.{held_for}
 use Rattle.world_model.specs.Node.{Node}
-use Rattle.std.proofs.lemmas.Bool.{cases_eq}
+use Rattle.std.proofs.lemmas.Bool.{false≢true}
 use Rattle.pico_base.specs.declared.script.Script.{Script}
 use Rattle.rpc_frame.specs.declared.asked.Asked.{Asked}
 use Rattle.kernel_model.specs.Script.{IsSoundScript}
@@ -13,66 +13,79 @@ use Rattle.node_model.specs.declared.held.Held.{Held}
 use Rattle.node_model.specs.declared.held.Held.TheVariants.{Request, Ending}
 use Rattle.world_model.specs.Step.{Step}
 use Rattle.world_model.specs.World.{World, world_after}
-use Rattle.world_laws.specs.Invariant.{Holds}
+use Rattle.world_laws.specs.Invariant.{HoldsOwing}
 use Rattle.world_laws.specs.Places.{Beside}
-use Rattle.world_laws.specs.Sights.{node_of}
+use Rattle.waiting_model.specs.Calls.{is_withdrawal, withdrawn_from}
+use Rattle.world_model.specs.Routes.{route_cancel, route_held_by}
+use Rattle.world_laws.specs.Cancels.{owing_of}
+use Rattle.route_laws.proofs.Owed.{HoldsAt}
+use Rattle.route_laws.proofs.cancels.Taken.{cancel-keeps-strikes}
+use Rattle.route_laws.proofs.cancels.Routed.{CancelRouted, cancel-has-route}
+use Rattle.weight_laws.proofs.Cancels.{LeadsRightly}
 use Rattle.route_laws.proofs.hand.ReadRoutes.{HasRoute}
-use Rattle.route_laws.proofs.keys.OtherRoutes.{LeaderIsOrderly, other-has-route}
-use Rattle.route_laws.specs.Ready.{IsReady}
-use Rattle.route_laws.proofs.first.OwnRoutes.{first-has-route}
+use Rattle.route_laws.proofs.served.Turns.{node-at}
+use Rattle.route_laws.proofs.hand.HandRoutes.{has-route}
 use Rattle.route_laws.proofs.release.Rounds.{first-is-packed}
 use Rattle.weight_laws.proofs.Counts.{IsOfNode}
 use Rattle.weight_laws.proofs.Frees.{frees-no-removal, removals-both}
 use Rattle.weight_laws.proofs.Hand.{RemovalsAreOf}
-use Rattle.weight_laws.proofs.HandSteps.{IsOfNodes, items-fit, light-route}
-use Rattle.weight_laws.proofs.LightRounds.{RoutesLightly}
+use Rattle.weight_laws.proofs.HandSteps.{IsOfNodes, items-fit, light-route, may-end}
+use Rattle.weight_laws.proofs.LightRounds.{CancelGoes, RoutesLightly}
 use Rattle.route_laws.proofs.exits.HandEnds.{hand-has-end}
 use Rattle.bound_laws.specs.Bounded.{IsGood, ItemIsOfNode, ItemsAreOfNodes, NodeIsBounded, StepIsBounded}
 use Rattle.bound_laws.proofs.Parts.{held-are-of-nodes}
-use Rattle.bound_laws.proofs.Ranges.{some-blocks}
-use Rattle.bound_laws.proofs.Ready.{Ready, good-held, good-is-ready, good-released, good-routed}
+use Rattle.bound_laws.proofs.Ranges.{few-blocks, some-blocks}
+use Rattle.run_laws.proofs.Middle.{leader-is-ready, leader-leads, ready-at}
+use Rattle.bound_laws.proofs.Ready.{Ready, good-held, good-released, good-routed}
 
 module _ (script : Script) (sound : IsSoundScript script) where
-  -- ---- what the rules ask of the leader
-
-  module _ (w : World) (hand : List Held) (b : Beside) (ready : Ready script w hand b) where
-    -- For a call of its own process.
-    pub leader-is-ready : IsReady (node_of w 1)
-    leader-is-ready =
-        record {
-          watches = ready.watches 1 (omega arith) (some-blocks script sound);
-          queues = ready.queue_keys;
-          sets = ready.set_keys;
-          nodes = ready.at_nodes;
-          numbers = ready.enough;
-        }
-
-    -- And for another's.
-    leader-is-orderly : LeaderIsOrderly w
-    leader-is-orderly =
-        record {
-          nodes = ready.at_nodes;
-          keys = record { queues = ready.queue_keys; sets = ready.set_keys };
-          enough = ready.enough;
-        }
-
-  -- ---- a call
+  -- ---- a call, or a withdrawal
 
   call-has-route : (v : World) (s : Step) (asked : Asked) (rest : List Held) (b : Beside)
-      → Holds script (world_after v 1 s) (Request asked ∷ rest) b → IsGood script v s (Request asked ∷ rest)
-      → HasRoute script v s asked rest b
-  call-has-route v s asked rest b holds good =
+      → HoldsAt script v 1 s (Request asked ∷ rest) b → IsGood script v s (Request asked ∷ rest)
+      → is_withdrawal asked.call ≡ false → HasRoute script v s asked rest b
+  call-has-route v s asked rest b holds good is_call =
       let ready : Ready script (world_after v 1 s) (Request asked ∷ rest) b =
-      good-is-ready script v sound s (Request asked ∷ rest) b good holds
+      ready-at script sound v s (Request asked ∷ rest) b holds good
       in let own = good.items.0
-      in elim (cases_eq asked.caller 1) [
-        | inl first ↦
-            first-has-route script v s asked rest b holds (some-blocks script sound) first ready.never_waits
-            (leader-is-ready (world_after v 1 s) (Request asked ∷ rest) b ready)
-        | inr other ↦
-            other-has-route script v s asked rest b holds own.low own.high other ready.never_waits
-            (leader-is-orderly (world_after v 1 s) (Request asked ∷ rest) b ready)
-      ]
+      in has-route script v s asked rest b holds
+      (record { low = own.low; high = own.high; is_call = is_call }) (few-blocks script sound)
+      (leader-is-ready script sound (world_after v 1 s) (Request asked ∷ rest) b ready)
+
+  cancel-goes : (v : World) (s : Step) (asked : Asked) (rest : List Held) (b : Beside)
+      → HoldsAt script v 1 s (Request asked ∷ rest) b → IsGood script v s (Request asked ∷ rest)
+      → is_withdrawal asked.call ≡ true → CancelGoes script v s asked rest b
+  cancel-goes v s asked rest b holds good withdraws = by-name (withdrawn_from asked.call) refl withdraws
+    where
+      by-name : (o : Option Name) → withdrawn_from asked.call ≡ o → is_some o ≡ true
+          → CancelGoes script v s asked rest b
+      by-name None of h = absurd (false≢true h)
+      by-name (Some name) of h =
+          let own = good.items.0
+          in let next : Step = route_cancel script s name asked
+          in let goes : CancelRouted script v next rest (owing_of 1 s.strikes) b =
+          cancel-has-route script v s asked rest b holds
+          (let ready : Ready script (world_after v 1 s) (Request asked ∷ rest) b =
+          ready-at script sound v s (Request asked ∷ rest) b holds good
+          in ready.at_nodes)
+          own.low own.high name of
+          in record {
+            next = route_cancel script s name asked;
+            is_route = ap (route_held_by script s asked) of;
+            beside = goes.beside;
+            holds = subst (λ t. HoldsOwing script (world_after v 1 next) rest (owing_of 1 t) goes.beside)
+                (sym (cancel-keeps-strikes script s name asked)) goes.holds;
+            calls = goes.calls;
+          }
+
+  -- the leader in the middle of its event
+  leads-rightly : (v : World) (s : Step) (hand : List Held) (b : Beside) → HoldsAt script v 1 s hand b
+      → IsGood script v s hand → LeadsRightly s.node
+  leads-rightly v s hand b holds good =
+      subst (λ (m : Node). LeadsRightly m)
+      (node-at script v 1 s holds.shape (omega arith) (some-blocks script sound))
+      (leader-leads script sound (world_after v 1 s) hand (owing_of 1 s.strikes) b holds
+      (ready-at script sound v s hand b holds good))
 
   -- ---- all
 
@@ -104,11 +117,15 @@ module _ (script : Script) (sound : IsSoundScript script) where
   pub hand-goes-on : (name : Name) → RoutesLightly script name (IsGoodFor name)
   hand-goes-on name =
       record {
-        routes = λ v s asked rest b holds good.
-            light-route script v s asked rest b holds (call-has-route v s asked rest b holds good.0);
+        routes = λ v s asked rest b holds good is_call.
+            light-route script v s asked rest b (call-has-route v s asked rest b holds good.0 is_call);
+        cancels = λ v s asked rest b holds good withdraws. cancel-goes v s asked rest b holds good.0 withdraws;
+        is_call = λ v s asked rest good is_call.
+            let own = good.0.items.0 in record { low = own.low; high = own.high; is_call = is_call };
+        names_nodes = λ v s hand b holds good. leads-rightly v s hand b holds good.0;
         ends = λ v s parcel rest b holds good.
             let ready : Ready script (world_after v 1 s) (Ending parcel ∷ rest) b =
-            good-is-ready script v sound s (Ending parcel ∷ rest) b good.0 holds
+            ready-at script sound v s (Ending parcel ∷ rest) b holds good.0
             in hand-has-end script v s parcel rest b holds ready.reads ready.at_nodes;
         good_routed = λ v s next asked rest good is.
             (good-routed script v s next asked rest good.0 is, good.1.1);
@@ -119,7 +136,8 @@ module _ (script : Script) (sound : IsSoundScript script) where
           removals-both name items rest
               (frees-no-removal script name parcel
               (first-is-packed script (world_after v 1 s) parcel rest b holds) s
-              (items-fit script v s (Ending parcel ∷ rest) b holds) next items is) good.1.1,
+              (items-fit script v s (Ending parcel ∷ rest) b holds)
+              (may-end script v s (Ending parcel ∷ rest) b holds) next items is) good.1.1,
         );
         of_nodes = λ v s hand good. are-of-nodes v s hand good.0;
         one_name = λ v s hand good. good.1;

@@ -12,7 +12,6 @@ use Rattle.rpc_frame.specs.declared.frame.Frame.{Frame}
 use Rattle.rpc_frame.specs.declared.frame.Frame.TheVariants as frames
 use Rattle.number_maps.specs.Maps.{get}
 use Rattle.kernel_model.specs.Script.{IsSoundScript}
-use Rattle.entry_laws.specs.Entering.{HasHistory}
 use Rattle.node_model.specs.declared.held.Held.TheVariants.{Ending}
 use Rattle.node_model.specs.Directory.{Directory, held_for, is_known}
 use Rattle.node_model.specs.Kinds.{for_kind}
@@ -29,11 +28,11 @@ use Rattle.world_laws.proofs.Changes.{Changes, filter-is-list-map, frames_if, ma
 use Rattle.world_laws.proofs.LeftAlone.{family-left-alone, few-still, frames-still-fit, kind-left-alone, sender-stays, was-there}
 use Rattle.world_laws.proofs.Stays.{IsMore, SameWay, kind-stays, way-stays}
 use Rattle.world_laws.proofs.Steps.{run-steps}
-use Rattle.rule_laws.proofs.own.Moved.{AfterRun}
+use Rattle.rule_laws.proofs.own.Moved.{AfterRun, is_still}
 use Rattle.rule_laws.proofs.own.OwnCases.{Keeps}
 use Rattle.rule_laws.proofs.own.Runs.{Starts}
 use Rattle.run_laws.proofs.LeavingNames.{leaving-name}
-use Rattle.run_laws.proofs.LeavingStarts.{leaves-by-rule, leaving_beside, leaving_frame, leaving_node, leaving_sends, leaving_step, leaving_world, leaving-born, leaving-calls, leaving-changes, leaving-directory, leaving-nodes}
+use Rattle.run_laws.proofs.LeavingStarts.{leaves-by-rule, leaving_beside, leaving_frame, leaving_node, leaving_sends, leaving_step, leaving_world, leaving-born, leaving-calls, leaving-cancels, leaving-changes, leaving-directory, leaving-nodes, leaving-whole}
 
 living-not-left : (stage : Stage) → stage ≡ Living → stage ≡ Left → ⊥
 living-not-left stage e h = absurd (cc)
@@ -264,8 +263,8 @@ module _ (script : Script) (sound : IsSoundScript script) (w : World) (b : Besid
   leaving-holds =
       record {
         shape = changes.shape;
-        history = subst (λ j. HasHistory script j b.kernel b.places) (sym (changes.journal ∙ append-nil w.journal))
-            holds.history;
+        history = holds.history;
+        whole = leaving-whole script sound w b holds p low high can s other home;
         leading = subst (λ (d : Directory). IsLeading d) (sym same-there) holds.leading;
         pids = holds.pids;
         nodes = leaving-nodes script sound w b holds p low high can s other home;
@@ -273,6 +272,7 @@ module _ (script : Script) (sound : IsSoundScript script) (w : World) (b : Besid
             ((λ e. other (sym e)), tt);
         names = leaving-name script sound w b holds p low high can s other home;
         calls = leaving-calls script sound w b holds p low high can s other home;
+        cancels = leaving-cancels script sound w b holds p low high can s other home;
         ways = ways-now;
         parcels = λ parcel there. sender-stays script p w next n [] sends [] changes b.pids parcel
             (λ left. absurd (living-not-left (stage_of w p) s.stage left))
@@ -294,5 +294,5 @@ module _ (script : Script) (sound : IsSoundScript script) (w : World) (b : Besid
               low high (leaves-by-rule script sound w b holds p low high can s other home);
           holds = leaving-holds;
         };
-        after = inr (record { place = Ends; calls = λ y. refl; fits = tt });
+        after = inr (record { place = Ends; calls = λ y. is_still refl; fits = tt });
       }

@@ -136,6 +136,7 @@ module _ (script : Script) (sound : IsSoundScript script) (w : World) (b : Besid
         maker = sym (ap (λ d. maker d m) same-there);
         stays = λ y. sym (ap (λ d. stays d y) same-there);
         used = refl;
+        part = refl;
         body = refl;
         deed = refl;
         held = λ y. sym (read-same script p w next n [] sends [] changes (λ (z : Node). get_named z.deeds m) refl y);
@@ -144,15 +145,15 @@ module _ (script : Script) (sound : IsSoundScript script) (w : World) (b : Besid
         kept = λ pid. sym (ap (λ d. filter (is_parcel_with m) (held_for d (Proc pid))) same-there);
         hand = refl;
         begins = begins-same;
-        steps = λ y. sym (only-stayed script p w next n [] sends [] changes (λ t q fs. plays moved.call m fs)
+        steps = λ y. sym (only-stayed script p w next n [] sends [] changes (λ t q fs. plays x.used moved.call m fs)
             (λ t q. flat_map-is-list-map _) (refl, tt) y 1
-            ∙ leaving-steps script sound w b holds p low high can s other home m y
-            ∙ stayed script p w next n [] sends [] changes (λ t q fs. plays b.call m fs)
+            ∙ leaving-steps script sound w b holds p low high can s other home x.used m y
+            ∙ stayed script p w next n [] sends [] changes (λ t q fs. plays x.used b.call m fs)
             (λ t q. flat_map-is-list-map _) tt y 1);
         ranges = λ y. sym (only-stayed script p w next n [] sends [] changes
-            (λ t q fs. flat_map (range_steps_of moved.call m) fs) (λ t q. flat_map-is-list-map _) (refl, tt) y 1
-            ∙ leaving-ranges script sound w b holds p low high can s other home m y
-            ∙ stayed script p w next n [] sends [] changes (λ t q fs. flat_map (range_steps_of b.call m) fs)
+            (λ t q fs. flat_map (range_steps_of x.used moved.call m) fs) (λ t q. flat_map-is-list-map _) (refl, tt) y 1
+            ∙ leaving-ranges script sound w b holds p low high can s other home x.used m y
+            ∙ stayed script p w next n [] sends [] changes (λ t q fs. flat_map (range_steps_of x.used b.call m) fs)
             (λ t q. flat_map-is-list-map _) tt y 1);
         placed = λ y. sym (made-same script p w next n [] sends [] changes (λ t q fs. placed_in m fs)
             (λ t q. flat_map-is-list-map _) tt (refl, tt) 1 y);
@@ -165,6 +166,8 @@ module _ (script : Script) (sound : IsSoundScript script) (w : World) (b : Besid
       name-stays script b.pids (is_born_in w) (is_born_in next) m _ _
       (leaving-born script sound w b holds p low high can s other home) name-seen
       (record {
+        parts = old.parts;
+        callers = old.callers;
         made = old.made;
         place_fits = old.place_fits;
         tables = old.tables;

@@ -1,6 +1,6 @@
 -- A node other than the leader starts the call that ends its process: the node leaves, and tells the leader. The step,
 -- what it changes, and the call.
-use Rattle.std.proofs.Common.{◌≡◌, ◌≢◌, ℕ, ◌≤◌, true, if◌then◌else◌, List, [], ◌∷◌, filter, flat_map, Some, refl, ap, sym, subst, ◌∙◌, inl, inr, arith}
+use Rattle.std.proofs.Common.{◌≡◌, ◌≢◌, ℕ, ◌≤◌, Bool, true, false, if◌then◌else◌, List, [], ◌∷◌, filter, flat_map, Some, refl, ap, sym, subst, ◌∙◌, inl, inr, arith, append-nil}
 use Rattle.std.proofs.lemmas.Bool.{cases_eq, eq-eqb, ne_eqb}
 use Rattle.pico_base.specs.declared.call.Call.{Call}
 use Rattle.pico_base.specs.declared.call.Home.TheVariants as homes
@@ -11,7 +11,7 @@ use Rattle.rpc_frame.specs.declared.frame.Frame.TheVariants as frames
 use Rattle.pico_base.specs.declared.numbers.Name.{Name}
 use Rattle.kernel_model.specs.Script.{IsSoundScript}
 use Rattle.node_model.specs.Caller.{Caller, start_call}
-use Rattle.node_model.specs.Directory.{Directory, held_for}
+use Rattle.node_model.specs.Directory.{Directory, held_for, is_known, stays}
 use Rattle.world_model.specs.Node.{Leaving, Node, Over, can_run}
 use Rattle.world_model.specs.Starting.{end_leader, leave, run, start_by}
 use Rattle.world_model.specs.Step.{Step, step_to}
@@ -29,6 +29,15 @@ use Rattle.world_laws.proofs.LeftAlone.{LeavesCall, call-left-alone, other-node-
 use Rattle.world_laws.proofs.Stays.{IsMore, SameCall, call-stays, node-born}
 use Rattle.world_laws.proofs.Steps.{changes-by-run}
 use Rattle.rule_laws.proofs.own.Runs.{Starts, run-is}
+use Rattle.waiting_model.specs.Marks.{Alive}
+use Rattle.waiting_model.specs.Kernel.{living_at}
+use Rattle.waiting_model.specs.Calls.{waits_at}
+use Rattle.world_laws.specs.Cancels.{CancelHolds, Nothing, cancel_sight, is_held_cancel_of}
+use Rattle.world_laws.specs.Wholes.{HasMarks, HasWhole, under_way_at}
+use Rattle.world_laws.proofs.Cancels.{LeavesCancel, cancel-left-alone, is_item_of}
+use Rattle.rule_laws.proofs.CallMoves.{cancel-if-same}
+use Rattle.rule_laws.proofs.own.Starting.{cancel-started, marks-started}
+use Rattle.world_laws.proofs.Wholes.{marks-of-others, whole-left-alone}
 
 leaving-is-over : Leaving ≡ Over → ⊥
 leaving-is-over h = cc
@@ -58,7 +67,7 @@ module _ (script : Script) (sound : IsSoundScript script) (w : World) (b : Besid
   leaving_sends = (1, leaving_frame) ∷ []
 
   abbrev pub leaving_step : Step
-  leaving_step = record { node = leaving_node; entries = []; sends = leaving_sends }
+  leaving_step = record { node = leaving_node; entries = []; sends = leaving_sends; strikes = false }
 
   abbrev pub leaving_world : World
   leaving_world = world_after w p leaving_step
@@ -133,6 +142,7 @@ module _ (script : Script) (sound : IsSoundScript script) (w : World) (b : Besid
           in_streams = s.nowhere.in_streams;
           held_for_names = s.nowhere.held_for_names;
           in_hand = s.nowhere.in_hand;
+          waiting = s.nowhere.waiting;
         };
         home = ap (λ h. may_be_in Ends h call) home;
         used_up = tt;
@@ -146,6 +156,7 @@ module _ (script : Script) (sound : IsSoundScript script) (w : World) (b : Besid
               may = s.due_now.may;
             });
         at_work = refl;
+        started = omega arith;
         tickets = let few = s.free.tickets in omega (arith, few);
         try_left = s.free.try_left;
       }
@@ -169,6 +180,7 @@ module _ (script : Script) (sound : IsSoundScript script) (w : World) (b : Besid
             (refl, tt) to sender);
         held = λ m. sym (ap (λ (d : Directory). filter (is_item_about p) (held_for d m)) leaving-directory);
         hand = refl;
+        waiters = λ m. refl;
       }
 
   call-elsewhere : (y : ℕ) → y ≢ p → calls-now y ≡ b.call y
@@ -183,6 +195,7 @@ module _ (script : Script) (sound : IsSoundScript script) (w : World) (b : Besid
         call_is = call-elsewhere y d;
         held_is = λ m. ap (λ (z : Directory). filter (is_item_about y) (held_for z m)) leaving-directory;
         hand_is = refl;
+        waiters_are = λ m. refl;
       }
 
   pub leaving-calls : (y : ℕ) → 1 ≤ y → y ≤ node_count script
@@ -208,13 +221,72 @@ module _ (script : Script) (sound : IsSoundScript script) (w : World) (b : Besid
       (λ t q fs. filter (is_about p t q) fs) (λ t q. filter-is-list-map (is_about p t q)) tt t q
       ∙ s.nowhere.in_streams t q
 
-  pub leaving-steps : (m : Name) (y : ℕ)
-      → plays calls-now m (leaving-changes.left y 1) ≡ plays b.call m (leaving-changes.left y 1)
-  leaving-steps m y =
-      plays-of-others b.call calls-now p call-elsewhere m y 1 (leaving-changes.left y 1) (left-alone y 1)
+  pub leaving-steps : (used : Bool) (m : Name) (y : ℕ)
+      → plays used calls-now m (leaving-changes.left y 1) ≡ plays used b.call m (leaving-changes.left y 1)
+  leaving-steps used m y =
+      plays-of-others used b.call calls-now p call-elsewhere m y 1 (leaving-changes.left y 1) (left-alone y 1)
 
-  pub leaving-ranges : (m : Name) (y : ℕ)
-      → flat_map (range_steps_of calls-now m) (leaving-changes.left y 1)
-      ≡ flat_map (range_steps_of b.call m) (leaving-changes.left y 1)
-  leaving-ranges m y =
-      ranges-of-all-others b.call calls-now p call-elsewhere m y 1 (leaving-changes.left y 1) (left-alone y 1)
+  pub leaving-ranges : (used : Bool) (m : Name) (y : ℕ)
+      → flat_map (range_steps_of used calls-now m) (leaving-changes.left y 1)
+      ≡ flat_map (range_steps_of used b.call m) (leaving-changes.left y 1)
+  leaving-ranges used m y =
+      ranges-of-all-others used b.call calls-now p call-elsewhere m y 1 (leaving-changes.left y 1) (left-alone y 1)
+
+  -- ---- the kernel in which callers wait, and withdrawals
+
+  own-marks : (a : Alive) → living_at b.whole (b.pids p) ≡ Some a
+      → HasMarks (calls-now p) (under_way_at leaving_world p) a
+  own-marks a lives =
+      subst (λ o. HasMarks (calls-now p) o a) (sym (ap (λ (m : Node). m.caller.under_way) leaving-changes.here))
+      (subst (λ c. HasMarks c (Some call) a) (sym (ap (λ t. if t then Ends else b.call p) (eq-eqb p p refl)))
+      (marks-started script w b holds p low high s Ends a refl lives))
+
+  pub leaving-whole : HasWhole leaving_world leaving_beside
+  leaving-whole =
+      whole-left-alone w leaving_world b leaving_beside Nothing
+      (record {
+        journal_is = leaving-changes.journal ∙ append-nil w.journal;
+        lines_are = refl;
+        kernel_is = refl;
+        whole_is = refl;
+        pids_are = λ y. refl;
+        bodies_are = λ name. refl;
+        marks_still = λ y a lives. marks-of-others w leaving_world b.call calls-now p call-elsewhere
+            (λ y d. ap (λ (m : Node). m.caller.under_way) (leaving-changes.others y d)) y a
+            (λ e marks. own-marks a (subst (λ z. living_at b.whole (b.pids z) ≡ Some a) e lives));
+      })
+      holds.whole
+
+  own-cancel : CancelHolds p Nothing (cancel_sight leaving_world [] leaving_beside p)
+  own-cancel =
+      cancel-started script w b holds p low high s leaving_world [] leaving_node [] leaving_sends [] leaving-changes
+      leaving_beside refl refl refl refl refl refl
+      (λ m. ap (λ (d : Directory). filter (is_held_cancel_of p) (held_for d m)) leaving-directory) refl tt (refl, tt)
+      (is_born_in leaving_world) (leaving-calls p low high)
+
+  other-cancels : (y : ℕ) → y ≢ p → LeavesCancel w leaving_world [] [] b leaving_beside p leaving_node y
+  other-cancels y d =
+      record {
+        own = λ e. absurd (d e);
+        call_is = call-elsewhere y d;
+        cancel_is = refl;
+        held_is = λ m. ap (λ (z : Directory). filter (is_item_of y) (held_for z m)) leaving-directory;
+        hand_is = refl;
+        nowhere = λ call is may l. record {
+          node = l.node;
+          is = call-elsewhere y d ∙ l.is;
+          leaves = ap (λ (z : Directory). stays z l.node) leaving-directory ∙ l.leaves;
+          unknown = ap (λ (z : Directory). is_known z (waits_at (node_of w y).pid call)) leaving-directory ∙ l.unknown;
+        };
+      }
+
+  pub leaving-cancels : (y : ℕ) → 1 ≤ y → y ≤ node_count script
+      → CancelHolds y Nothing (cancel_sight leaving_world [] leaving_beside y)
+  leaving-cancels y low_y high_y =
+      elim (cases_eq y p) [
+        | inl e ↦ subst (λ z. CancelHolds z Nothing (cancel_sight leaving_world [] leaving_beside z)) (sym e) own-cancel
+        | inr d ↦
+            cancel-if-same y Nothing (cancel_sight w [] b y) (cancel_sight leaving_world [] leaving_beside y) refl
+            (cancel-left-alone script p w leaving_world leaving_node [] leaving_sends [] leaving-changes [] [] b
+            leaving_beside y (other-cancels y d) tt (refl, tt) tt (refl, tt)) (holds.cancels y low_y high_y)
+      ]

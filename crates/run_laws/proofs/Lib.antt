@@ -1,4 +1,8 @@
+pub mod Calm
+pub mod Stages
+pub mod Middle
 pub mod Hands
+pub mod Struck
 pub mod Takes
 pub mod LeavingStarts
 pub mod LeavingNames
@@ -6,5 +10,6 @@ pub mod Leaves
 pub mod Starts
 pub mod Comes
 pub mod Worlds
+pub mod JournalFits
 pub mod Runs
 pub mod Schedules

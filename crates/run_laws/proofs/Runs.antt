@@ -1,8 +1,10 @@
 -- What follows for every run of a sound script.
 use Rattle.std.proofs.Common.{[], is_some, ap}
-use Rattle.entry_laws.specs.Entering.{HasHistory}
 use Rattle.world_laws.specs.Invariant.{HasInvariant, Holds}
+use Rattle.world_laws.specs.Places.{Beside}
+use Rattle.world_laws.specs.Wholes.{HasWhole}
 use Rattle.run_laws.specs.Laws.{EnabledEventsHaveSteps, JournalsAreLegal, RunsAreShort, WorldsHaveTheInvariant}
+use Rattle.run_laws.proofs.JournalFits.{JournalFits, journal-fits}
 use Rattle.run_laws.proofs.Worlds.{IsSettled, StaysSettled, event-stays-settled, reachable-is-settled, settled-runs-are-short}
 
 -- Each world that a run leads to has the invariant.
@@ -16,8 +18,10 @@ pub journals_are_legal_lemma : JournalsAreLegal
 journals_are_legal_lemma script w sound run =
     let i : HasInvariant script w = worlds_have_the_invariant_lemma script w sound run
     in let holds : Holds script w [] i.beside = i.holds
-    in let h : HasHistory script w.journal i.beside.kernel i.beside.places = holds.history
-    in (record { last = i.beside.kernel; replays = h.legal }, record { last = i.beside.places; fits = h.fits })
+    in let whole : HasWhole w i.beside = holds.whole
+    in let last : Beside = i.beside
+    in let f : JournalFits script w i.beside = journal-fits script w i.beside holds
+    in (record { last = last.whole; replays = whole.legal }, record { last = f.last; fits = f.fits })
 
 -- Each of its enabled events has a step.
 pub enabled_events_have_steps_lemma : EnabledEventsHaveSteps

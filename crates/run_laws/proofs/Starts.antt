@@ -15,7 +15,7 @@ use Rattle.world_laws.specs.Invariant.{Holds}
 use Rattle.world_laws.specs.Places.{Beside}
 use Rattle.world_laws.specs.Sights.{node_of}
 use Rattle.rule_laws.proofs.own.Enabled.{IsRun, enabled-runs, enabled-starts}
-use Rattle.rule_laws.proofs.own.Moved.{AfterRun}
+use Rattle.rule_laws.proofs.own.Moved.{AfterRun, is_still}
 use Rattle.rule_laws.proofs.own.OwnCases.{Keeps}
 use Rattle.rule_laws.proofs.own.Runs.{Starts}
 use Rattle.rule_laws.proofs.makes.Makes.{own-call-starts}
@@ -23,8 +23,9 @@ use Rattle.route_laws.proofs.held.AnyStarts.{any-starts}
 use Rattle.route_laws.proofs.exits.FirstEnds.{first-end-keeps}
 use Rattle.bound_laws.specs.Bounded.{IsBounded}
 use Rattle.bound_laws.proofs.Ready.{Ready, bounded-is-ready}
-use Rattle.run_laws.proofs.Hands.{leader-is-ready}
+use Rattle.run_laws.proofs.Middle.{leader-is-ready}
 use Rattle.run_laws.proofs.Leaves.{leave-starts}
+use Rattle.bound_laws.proofs.Ranges.{few-blocks}
 
 module _ (script : Script) (sound : IsSoundScript script) (w : World) (b : Beside) (holds : Holds script w [] b)
     (bounded : IsBounded script w []) where
@@ -48,7 +49,7 @@ module _ (script : Script) (sound : IsSoundScript script) (w : World) (b : Besid
             record {
               beside = _;
               keeps = first-end-keeps script sound w b holds high can s is;
-              after = inl (λ y. refl);
+              after = inl (λ y. is_still refl);
             })
         | inr other ↦ λ high can s is. leave-starts script sound w b holds p low high can s other is
       ]
@@ -59,8 +60,9 @@ module _ (script : Script) (sound : IsSoundScript script) (w : World) (b : Besid
       (s : Starts script w b p) where
     for-others : is_for_others (home_of (node_of w p).pid s.call) ≡ true → Keeps script w (events.Run p) (AfterRun b p)
     for-others others =
-        any-starts script sound w b holds ready.never_waits (leader-is-ready script sound w [] b ready) p low high can s
-        others
+        any-starts script sound w b holds (few-blocks script sound) (leader-is-ready script sound w [] b ready) p low
+        high
+        can s others
 
     by-home : (home : Home) → home_of (node_of w p).pid s.call ≡ home → Keeps script w (events.Run p) (AfterRun b p)
     by-home homes.Own is =

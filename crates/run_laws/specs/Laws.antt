@@ -2,9 +2,9 @@
 use Rattle.std.specs.Prelude.{◌≡◌, true, List, IsSome}
 use Rattle.pico_base.specs.declared.script.Event.{Event}
 use Rattle.pico_base.specs.declared.script.Script.{Script}
-use Rattle.kernel_model.specs.Fitting.{Fits}
-use Rattle.kernel_model.specs.History.{IsLegal}
 use Rattle.kernel_model.specs.Script.{IsSoundScript}
+use Rattle.waiting_model.specs.Fitting.{Fits}
+use Rattle.waiting_model.specs.History.{IsLegal}
 use Rattle.world_model.specs.Run.{IsReachableWorld, Runs}
 use Rattle.world_model.specs.Schedule.{Schedule, Follows}
 use Rattle.world_model.specs.World.{World, is_enabled, step}

@@ -1,6 +1,6 @@
 -- Names that come to a node: what was held for them is in hand, and weighs as much there.
 use Rattle.std.proofs.Common.{◌≡◌, ◌≢◌, ℕ, zero, suc, ◌+◌, ◌*◌, ◌≤◌, Bool, true, false, not, ◌||◌, if◌then◌else◌, List, [], ◌∷◌, ◌++◌, is_none, Option, Some, None, refl, ap, sym, ◌∙◌, arith}
-use Rattle.std.specs.Prelude.{count_by, sum_by}
+use Rattle.std.specs.Prelude.{sum_by}
 use Rattle.std.specs.List.{AllByRecursion, list_any}
 use Rattle.std.proofs.lemmas.Bool.{false≢true}
 use Rattle.std.proofs.lemmas.List.Sums.{sum_by-append, sum_by-cons}
@@ -19,7 +19,7 @@ use Rattle.world_model.specs.World.{node_count, numbers}
 use Rattle.world_laws.specs.Callers.{is_held_at}
 use Rattle.world_laws.specs.Invariant.{IsLeading}
 use Rattle.world_laws.specs.Names.{IsItemFor}
-use Rattle.world_laws.specs.Places.{CallPlace, Idle, AsksLease, HasLease, InAsk, InRequest, InNotOwner, SentByPlace, SentByRange, InBounce, IsHeld, IsInHand, InAnswer, Ends}
+use Rattle.world_laws.specs.Places.{CallPlace, Idle, AsksLease, HasLease, InAsk, InRequest, InNotOwner, SentByPlace, SentByRange, InBounce, IsHeld, IsInHand, Parked, Waits, InAnswer, Ends}
 use Rattle.world_laws.specs.Plays.{is_home_on}
 use Rattle.world_laws.proofs.Named.{same-name, same-name-is}
 use Rattle.rule_laws.proofs.Places.{place-with-other, place-with-same}
@@ -27,9 +27,9 @@ use Rattle.route_laws.proofs.hand.Holdings.{leading-with}
 use Rattle.route_laws.proofs.hand.Routes.{removal-of-object}
 use Rattle.route_laws.proofs.exits.Arrivals.{AreApart, is_one_of}
 use Rattle.route_laws.proofs.exits.Released.{call_released}
-use Rattle.weight_laws.specs.Weights.{asks_back, call_at, call_weight, calls_weight, directory_weight, is_away, item_weight, removes_away}
+use Rattle.weight_laws.specs.Weights.{asks_back, call_at, call_weight, calls_weight, directory_weight, is_away, is_held_cancel, item_weight, removes_away}
 use Rattle.weight_laws.proofs.Counts.{is_request, over, over-both, over-none, over-same, requests_in}
-use Rattle.weight_laws.proofs.GiveBacks.{items-cost, ones, parcels-counted}
+use Rattle.weight_laws.proofs.GiveBacks.{besides_calls, cancels-counted, items-cost, ones, parcels-counted}
 use Rattle.weight_laws.proofs.Hand.{FewerAway}
 use Rattle.weight_laws.proofs.Known.{KnowsMore, knows-after, knows-with}
 use Rattle.weight_laws.proofs.Parts.{place-adds, place-replaces}
@@ -45,7 +45,7 @@ or-second false c h = h
 -- ---- the directory
 
 freed-at : (d : Directory) (name : Name) (node : ℕ) (o : Option Place) → place_of d name ≡ o → IsLeading d
-    → directory_weight (arrive d name node) + count_by is_parcel (items_of o) ≤ directory_weight d
+    → directory_weight (arrive d name node) + besides_calls (items_of o) ≤ directory_weight d
 freed-at d name node None e leads = let less = place-adds d name (At node) in omega (arith, less)
 freed-at d name node (Some (At other)) e leads =
     let less = place-replaces d name (At node) (At other) leads e in omega (arith, less)
@@ -63,17 +63,31 @@ held-others d name node (m ∷ names) h =
     ∙ ap (λ items. held_for d m ++ items)
     (held-others d name node names (or-second (is_same_name name m) (is_one_of name names) h))
 
--- The directory is lighter by the parcels that were held.
+-- what held items weigh besides calls, item by item
+abbrev pub besides : List Held → ℕ
+besides items = ones is_parcel items + 3 * ones is_held_cancel items
+
+besides-both : (xs ys : List Held) → besides (xs ++ ys) ≡ besides xs + besides ys
+besides-both xs ys =
+    let parcels = sum_by-append (λ i. one_if (is_parcel i)) xs ys
+    in let cancels = sum_by-append (λ i. one_if (is_held_cancel i)) xs ys
+    in omega (arith, parcels, cancels)
+
+besides-counted : (items : List Held) → besides items ≡ besides_calls items
+besides-counted items =
+    let parcels = parcels-counted items in let cancels = cancels-counted items in omega (arith, parcels, cancels)
+
+-- The directory is lighter by the parcels and withdrawals that were held.
 pub arrivals-free : (node : ℕ) (names : List Name) (d : Directory) → AreApart names → IsLeading d
-    → directory_weight (arrive_all d names node) + ones is_parcel (held_for_all d names) ≤ directory_weight d
+    → directory_weight (arrive_all d names node) + besides (held_for_all d names) ≤ directory_weight d
 arrivals-free node [] d apart leads = omega arith
 arrivals-free node (name ∷ names) d apart leads =
     let first = freed-at d name node (place_of d name) refl leads
-    in let count = parcels-counted (held_for d name)
+    in let count = besides-counted (held_for d name)
     in let rest = arrivals-free node names (arrive d name node) apart.1 (leading-with d name (At node) leads)
-    in let same : ones is_parcel (held_for_all (arrive d name node) names) ≡ ones is_parcel (held_for_all d names) =
-    ap (ones is_parcel) (held-others d name node names apart.0)
-    in let both = sum_by-append (λ i. one_if (is_parcel i)) (held_for d name) (held_for_all d names)
+    in let same : besides (held_for_all (arrive d name node) names) ≡ besides (held_for_all d names) =
+    ap besides (held-others d name node names apart.0)
+    in let both = besides-both (held_for d name) (held_for_all d names)
     in omega (arith, first, count, rest, same, both)
 
 -- what is known stays known
@@ -116,20 +130,20 @@ arrivals-fewer node names d all m object h =
 abbrev pub ItemsFit : Directory → Type 0
 ItemsFit d = (m : Name) → AllByRecursion (IsItemFor m) (held_for d m)
 
--- In hand the calls may cost 7, and the parcels 1.
+-- In hand the calls may cost 7, the parcels 1 and the withdrawals 3.
 pub released-cost : (d d' : Directory) → ItemsFit d → (names : List Name)
     → AllByRecursion (λ m. is_known d' m ≡ true) names
     → sum_by (item_weight d') (held_for_all d names)
-    ≤ 7 * requests_in (held_for_all d names) + ones is_parcel (held_for_all d names)
+    ≤ 7 * requests_in (held_for_all d names) + besides (held_for_all d names)
 released-cost d d' fit [] known = omega arith
 released-cost d d' fit (name ∷ names) known =
     let rest = released-cost d d' fit names known.1
     in let first = items-cost d' name known.0 (held_for d name) (fit name)
-    in let count = parcels-counted (held_for d name)
+    in let count = besides-counted (held_for d name)
     in let costs = sum_by-append (item_weight d') (held_for d name) (held_for_all d names)
     in let calls = sum_by-append (λ i. one_if (is_request i)) (held_for d name) (held_for_all d names)
-    in let parcels = sum_by-append (λ i. one_if (is_parcel i)) (held_for d name) (held_for_all d names)
-    in omega (arith, rest, first, count, costs, calls, parcels)
+    in let others = besides-both (held_for d name) (held_for_all d names)
+    in omega (arith, rest, first, count, costs, calls, others)
 
 not-removed : (d : Directory) (name : Name) → is_object name ≡ false → (home : Home)
     → ((m : Name) → home ≡ homes.Removal m → is_object m ≡ true) → is_home_on name home ≡ true
@@ -200,6 +214,8 @@ released-weight names (SentByPlace to) = refl
 released-weight names (SentByRange to) = refl
 released-weight names (InBounce sender) = refl
 released-weight names IsInHand = refl
+released-weight names Parked = refl
+released-weight names (Waits name) = refl
 released-weight names (InAnswer sender reply) = refl
 released-weight names Ends = refl
 
@@ -254,6 +270,8 @@ freed-among names apart (SentByPlace to) = sym (none-among names (SentByPlace to
 freed-among names apart (SentByRange to) = sym (none-among names (SentByRange to) (λ m. refl))
 freed-among names apart (InBounce sender) = sym (none-among names (InBounce sender) (λ m. refl))
 freed-among names apart IsInHand = sym (none-among names IsInHand (λ m. refl))
+freed-among names apart Parked = sym (none-among names Parked (λ m. refl))
+freed-among names apart (Waits name) = sym (none-among names (Waits name) (λ m. refl))
 freed-among names apart (InAnswer sender reply) = sym (none-among names (InAnswer sender reply) (λ m. refl))
 freed-among names apart Ends = sym (none-among names Ends (λ m. refl))
 

@@ -1,6 +1,6 @@
 -- A frame about a call at the head of a stream: where the call is, and that its line may be tried.
-use Rattle.std.proofs.Common.{◌≡◌, ◌⊎◌, ℕ, ◌≤◌, true, cond, List, [], ◌∷◌, filter, slice_get, refl, ap, sym, ◌∙◌}
-use Rattle.std.proofs.lemmas.Bool.{eq-eqb}
+use Rattle.std.proofs.Common.{◌≡◌, ◌⊎◌, ℕ, ◌≤◌, true, cond, List, [], ◌∷◌, filter, slice_get, refl, ap, sym, ◌∙◌, Option, Some, None, is_some, subst}
+use Rattle.std.proofs.lemmas.Bool.{eq-eqb, false≢true}
 use Rattle.pico_base.specs.declared.call.Call.{Call}
 use Rattle.pico_base.specs.declared.numbers.Kind.{Kind}
 use Rattle.pico_base.specs.declared.reply.Reply.{Reply}
@@ -13,15 +13,17 @@ use Rattle.world_model.specs.Node.{Node}
 use Rattle.world_model.specs.World.{World, node_count}
 use Rattle.world_laws.specs.Places.{Beside, AsksLease, HasLease, InAsk, InRequest, InNotOwner, SentByPlace, SentByRange, InBounce, InAnswer}
 use Rattle.world_laws.specs.Sights.{node_of, is_born_in}
-use Rattle.world_laws.specs.Callers.{CallHolds, CallSight, HasCall, HasTryLeft, IsJustThere, asked_of, call_sight, frame_at, is_about, is_in_stream, only_if}
+use Rattle.world_laws.specs.Callers.{CallHolds, CallSight, HasCall, HasTryLeft, IsJustThere, asked_of, call_sight, frame_at, is_about, is_in_stream, only_if, HasCallOrNone}
 use Rattle.world_laws.specs.Families.{NodeHolds}
-use Rattle.world_laws.specs.Invariant.{Holds, IsShaped}
+use Rattle.world_laws.specs.Invariant.{Holds, IsShaped, HoldsOwing}
 use Rattle.world_laws.proofs.Steps.{Heads}
 use Rattle.world_laws.proofs.Heads.{head-is}
 use Rattle.rule_laws.proofs.Answers.{Found, IsAnswerOf, answer-of, find}
 use Rattle.rule_laws.proofs.CallFrames.{IsAskOf, IsBounceOf, IsForwardOf, IsLeaseOf, IsNotOwnerOf, IsRequestOf, ask-of, bounce-of, forward-of, lease-of-call, not-owner-of, request-of}
 use Rattle.rule_laws.proofs.LeaseAsks.{IsLeaseAskOf, lease-ask-of}
-use Rattle.weight_laws.proofs.Costs.{MayEnd}
+use Rattle.weight_laws.proofs.Costs.{MayEnd, MayEndIf}
+use Rattle.node_model.specs.declared.held.Held.{Held}
+use Rattle.world_laws.specs.Cancels.{Owing}
 
 module _ (script : Script) (w : World) (b : Beside) (holds : Holds script w [] b) (c : ℕ) (low : 1 ≤ c)
     (high : c ≤ node_count script) (p q : ℕ) (frame : Frame) (rest : List Frame)
@@ -69,6 +71,29 @@ module _ (script : Script) (w : World) (b : Beside) (holds : Holds script w [] b
   -- what the frame says of the place
   abbrev asked_there : Asked
   asked_there = asked_of x found.call
+
+-- where a call is under way at a node, its line may be tried once more
+pub may-end-if : (script : Script) (w : World) (hand : List Held) {owes : Owing} (b : Beside)
+    → HoldsOwing script w hand owes b → (p : ℕ) → 1 ≤ p → p ≤ node_count script → MayEndIf script (node_of w p)
+may-end-if script w hand b holds p low high there = by-call x.caller.under_way all.call there
+  where
+    x : CallSight
+    x = call_sight w hand b p
+
+    all : CallHolds script p (is_born_in w) (call_sight w hand b p)
+    all = holds.calls p low high
+
+    by-call : (o : Option Call) → HasCallOrNone script p (is_born_in w) (call_sight w hand b p) o → is_some o ≡ true
+        → MayEnd script (node_of w p)
+    by-call None h none = absurd (false≢true none)
+    by-call (Some call) h some =
+        let has : HasCall script p (is_born_in w) (call_sight w hand b p) call = h
+        in let m : NodeHolds script b.pids (is_born_in w) p (node_of w p) = holds.nodes p low high
+        in let shape : IsShaped script w = holds.shape
+        in record {
+          tries = shape.tries;
+          left = subst (λ y. HasTryLeft script y (node_of w p).caller) (sym m.number) has.try_left;
+        }
 
 -- ---- the place by the frame
 

@@ -1,27 +1,35 @@
 -- What the parts of a step cost: how much more it weighs, with what was sent, than before.
-use Rattle.std.proofs.Common.{◌≡◌, ℕ, ◌+◌, ◌≤◌, Bool, true, false, if◌then◌else◌, nat_eq, Option, Some, None, option_map, option_and_then, refl, ap, subst, arith}
-use Rattle.std.proofs.lemmas.Bool.{eqb-true}
+use Rattle.std.proofs.Common.{◌≡◌, ℕ, ◌+◌, ◌≤◌, Bool, true, false, if◌then◌else◌, nat_eq, List, [], ◌∷◌, Option, Some, None, is_some, slice_get, option_map, option_and_then, refl, ap, sym, subst, ◌∙◌, arith}
+use Rattle.std.specs.Option.{option_map_or}
+use Rattle.std.proofs.lemmas.Bool.{false≢true}
 use Rattle.pico_base.specs.declared.call.Call.{Call}
 use Rattle.pico_base.specs.declared.numbers.Name.{Name}
 use Rattle.pico_base.specs.declared.reply.Reply.{Reply}
 use Rattle.pico_base.specs.declared.reply.Reply.TheVariants as replies
+use Rattle.pico_base.specs.declared.script.Line.{Line}
 use Rattle.pico_base.specs.declared.script.Script.{Script}
 use Rattle.rpc_frame.specs.declared.asked.Asked.{Asked}
 use Rattle.rpc_frame.specs.declared.frame.Frame.TheVariants as frames
-use Rattle.kernel_model.specs.Effect.{Effect}
-use Rattle.kernel_model.specs.Transition.{effect}
+use Rattle.kernel_model.specs.Fitting.{is_due_again, vars_after}
+use Rattle.waiting_model.specs.declared.callers.Waiting.{Waiting}
+use Rattle.waiting_model.specs.declared.callers.Wake.{Wake}
+use Rattle.waiting_model.specs.Effect.{Effect}
+use Rattle.waiting_model.specs.Kernel.{Kernel}
+use Rattle.waiting_model.specs.Transition.{effect}
 use Rattle.kernel_laws.proofs.Plain.{from_some, not_some}
-use Rattle.node_model.specs.Bodies.{Body, Deeds, body_in, kernel_with}
-use Rattle.node_model.specs.Caller.{Caller, answer_call}
+use Rattle.node_model.specs.Bodies.{Body, Deeds, kernel_with, whole_in}
+use Rattle.node_model.specs.Caller.{Caller, answer_at, answer_call, end_call, if_it_waits, lines_of}
 use Rattle.node_model.specs.Directory.{At, stays}
 use Rattle.node_model.specs.Kinds.{get_named, put_all}
-use Rattle.node_model.specs.Serving.{Served, serve, serve_on, serve_at, serve_by, actor, changed_names, parts_in, has_read, no_such_name, name_for, makes_something}
-use Rattle.node_model.specs.Watches.{moves_to, with_read}
+use Rattle.node_model.specs.Serving.{Served, serve, serve_on, serve_at, serve_by, actor, changed_names, parts_in, no_such_name, name_for, makes_something, waiting_as}
+use Rattle.node_model.specs.Entries.{outcome_with}
+use Rattle.node_model.specs.Watches.{last_move, with_reads}
 use Rattle.world_model.specs.Node.{Node, Stage, Unborn, Living, Leaving, Left, Over, is_leader, under_way_as}
-use Rattle.world_model.specs.Step.{Step, carry_out, enter, reply_here, send, with_deeds, with_node}
-use Rattle.world_model.specs.Serving.{grant, grant_held, move_to, note_read, serve_asked, serve_asked_with, serve_nobody, without_deed}
+use Rattle.world_model.specs.Step.{Step, carry_out, carry_out_waking, enter, enter_with, reply_at, reply_here, reply_to, send, wake_all, wake_one, with_deeds, with_node, with_strike}
+use Rattle.world_model.specs.Serving.{grant, grant_held, has_room, is_struck, move_to, note_reads, serve_asked, serve_asked_with, serve_nobody, without_deed}
 use Rattle.world_laws.specs.Callers.{HasTries, HasTryLeft}
-use Rattle.weight_laws.specs.Weights.{left_to_start, node_weight, sends_weight, to_start_in, table_weight}
+use Rattle.route_laws.proofs.Owed.{is_empty, nobody_reads}
+use Rattle.weight_laws.specs.Weights.{left_to_start, node_weight, sends_weight, strike_weight, to_start_in, table_weight}
 use Rattle.weight_laws.proofs.Lines.{answer-below}
 use Rattle.weight_laws.proofs.Parts.{ObjectsRise, place-adds, size-put-there, size_of, table-keeps}
 use Rattle.weight_laws.proofs.Sums.{sends-push}
@@ -36,6 +44,10 @@ step_weight script s = node_weight script s.node + sends_weight s.sends
 pub record MayEnd (script : Script) (n : Node) : Type 0 where
   pub tries : HasTries script
   pub left : HasTryLeft script n.number n.caller
+
+-- where one is under way
+abbrev pub MayEndIf : Script → Node → Type 0
+MayEndIf script n = is_some n.caller.under_way ≡ true → MayEnd script n
 
 -- a caller with no more to start leaves its node no heavier
 pub stage-below : (script : Script) (number : ℕ) (c d : Caller) (stage : Stage)
@@ -57,76 +69,161 @@ under-way-at n ticket call = by-test (nat_eq ticket n.caller.ticket)
     by-test true h = h
     by-test false h = not_some call h
 
-here-costs : (script : Script) (s : Step) (reply : Reply) (ticket : ℕ) (o : Option Call)
-    → under_way_as s.node ticket ≡ o → MayEnd script s.node
+answered-free : (script : Script) (number : ℕ) (c : Caller) (call : Call) (reply : Reply)
+    → (answer_call script number c call reply).under_way ≡ None
+answered-free script number c call reply = by-line (slice_get (lines_of script number) c.line)
+  where
+    by-due : (line : Line) (t : Bool)
+        → (if t
+        then record (end_call c) { tried = c.tried + 1 }
+        else record (end_call c) { line = c.line + 1; tried = 0; vars = vars_after c.vars line.set reply }).under_way
+        ≡ None
+    by-due line true = refl
+    by-due line false = refl
+
+    by-line : (o : Option Line) → (answer_at c call reply o).under_way ≡ None
+    by-line None = refl
+    by-line (Some line) = by-due line (is_due_again call reply c.tried line.tries)
+
+-- no signal interrupts where no call is under way
+pub quiet-call : (c : Caller) → c.under_way ≡ None → strike_weight c ≡ 0
+quiet-call c e =
+    ap (λ o. if is_some (if c.noted then None else option_and_then if_it_waits o) then 4 else 0) e
+    ∙ ap (λ t. if t then 4 else 0) (by-test c.noted)
+  where
+    none : Option Call
+    none = None
+
+    by-test : (t : Bool) → is_some (if t then none else option_and_then if_it_waits none) ≡ false
+    by-test true = refl
+    by-test false = refl
+
+-- a caller whose call is over
+pub answered-quiet : (script : Script) (number : ℕ) (c : Caller) (call : Call) (reply : Reply)
+    → strike_weight (answer_call script number c call reply) ≡ 0
+answered-quiet script number c call reply =
+    quiet-call (answer_call script number c call reply) (answered-free script number c call reply)
+
+-- a reply to the node's own call makes a step no heavier
+pub here-costs : (script : Script) (s : Step) (reply : Reply) (ticket : ℕ) (o : Option Call)
+    → under_way_as s.node ticket ≡ o → MayEndIf script s.node
     → step_weight script (reply_here script s reply o) ≤ step_weight script s
 here-costs script s reply ticket None e may = omega arith
 here-costs script s reply ticket (Some call) e may =
     let n : Node = s.node
+    in let there : n.caller.under_way ≡ Some call = under-way-at n ticket call e
+    in let ends : MayEnd script n = may (ap is_some there)
     in let below : left_to_start script n.number (answer_call script n.number n.caller call reply)
     ≤ left_to_start script n.number n.caller =
-    answer-below script n.number may.tries n.caller call call reply (under-way-at n ticket call e) may.left
+    answer-below script n.number ends.tries n.caller call call reply there ends.left
     in let start = stage-below script n.number n.caller (answer_call script n.number n.caller call reply) n.stage below
-    in omega (arith, start)
+    in let quiet = answered-quiet script n.number n.caller call reply
+    in omega (arith, start, quiet)
 
-reply-by : (script : Script) (s : Step) (asked : Asked) (reply : Reply) (t : Bool)
-    → (t ≡ true → MayEnd script s.node)
-    → step_weight script (if t then reply_here script s reply (under_way_as s.node asked.ticket)
-    else send s asked.caller (frames.Answer asked.ticket reply))
-    ≤ step_weight script s
-reply-by script s asked reply true may =
-    here-costs script s reply asked.ticket (under_way_as s.node asked.ticket) refl (may refl)
-reply-by script s asked reply false may =
-    let one = sends-push s.sends (asked.caller, frames.Answer asked.ticket reply) in omega (arith, one)
+none-ends : (script : Script) (n : Node) → n.caller.under_way ≡ None → MayEndIf script n
+none-ends script n none there = absurd (false≢true (sym (ap is_some none) ∙ there))
 
--- A call is carried out: an Answer is counted at its call.
-pub carried-costs : (script : Script) (s : Step) (asked : Asked) (reply : Reply)
-    → (let n : Node = s.node in asked.caller ≡ n.number → MayEnd script n)
+-- and then none is under way
+pub here-ends : (script : Script) (s : Step) (reply : Reply) (o : Option Call) → MayEndIf script s.node
+    → (let t : Step = reply_here script s reply o in MayEndIf script t.node)
+here-ends script s reply None may = may
+here-ends script s reply (Some call) may =
+    let n : Node = s.node
+    in none-ends script (record n { caller = answer_call script n.number n.caller call reply })
+    (answered-free script n.number n.caller call reply)
+
+-- A reply costs nothing: an Answer is counted at its call.
+pub reply-costs : (script : Script) (s : Step) (caller ticket : ℕ) (reply : Reply) → MayEndIf script s.node
+    → step_weight script (reply_at script s caller ticket reply) ≤ step_weight script s
+reply-costs script s caller ticket reply may = let n : Node = s.node in by-test (nat_eq caller n.number)
+  where
+    by-test : (t : Bool)
+        → step_weight script (if t then reply_here script s reply (under_way_as s.node ticket)
+        else send s caller (frames.Answer ticket reply))
+        ≤ step_weight script s
+    by-test true = here-costs script s reply ticket (under_way_as s.node ticket) refl may
+    by-test false = let one = sends-push s.sends (caller, frames.Answer ticket reply) in omega (arith, one)
+
+-- and a call that is under way then may be answered
+pub reply-ends : (script : Script) (s : Step) (caller ticket : ℕ) (reply : Reply) → MayEndIf script s.node
+    → (let t : Step = reply_at script s caller ticket reply in MayEndIf script t.node)
+reply-ends script s caller ticket reply may = let n : Node = s.node in by-test (nat_eq caller n.number)
+  where
+    by-test : (t : Bool)
+        → (let u : Step = if t then reply_here script s reply (under_way_as s.node ticket)
+        else send s caller (frames.Answer ticket reply)
+        in MayEndIf script u.node)
+    by-test true = here-ends script s reply (under_way_as s.node ticket) may
+    by-test false = may
+
+-- A call is carried out.
+pub carried-costs : (script : Script) (s : Step) (asked : Asked) (reply : Reply) → MayEndIf script s.node
     → step_weight script (carry_out script s asked reply) ≤ step_weight script s
 carried-costs script s asked reply may =
-    let n : Node = s.node
-    in reply-by script (enter s asked.pid asked.call reply) asked reply (nat_eq asked.caller n.number)
-    (λ e. may (eqb-true asked.caller n.number e))
+    reply-costs script (enter s asked.pid asked.call reply) asked.caller asked.ticket reply may
+
+-- those who are woken
+wakes-cost : (script : Script) (s : Step) (wakes : List Wake) → MayEndIf script s.node
+    → step_weight script (wake_all script s wakes) ≤ step_weight script s
+wakes-cost script s [] may = omega arith
+wakes-cost script s (w ∷ wakes) may =
+    let first = reply-costs script s w.caller w.ticket w.reply may
+    in let rest = wakes-cost script (wake_one script s w) wakes
+    (reply-ends script s w.caller w.ticket w.reply may)
+    in omega (arith, first, rest)
+
+-- It is carried out with those whom it wakes.
+pub waking-costs : (script : Script) (s : Step) (asked : Asked) (own : Option Reply) (wakes : List Wake)
+    → MayEndIf script s.node
+    → step_weight script (carry_out_waking script s asked own wakes) ≤ step_weight script s
+waking-costs script s asked None wakes may =
+    wakes-cost script (enter_with s asked.pid asked.call (outcome_with None wakes)) wakes may
+waking-costs script s asked (Some reply) wakes may =
+    let entered : Step = enter_with s asked.pid asked.call (outcome_with (Some reply) wakes)
+    in let first = reply-costs script entered asked.caller asked.ticket reply may
+    in let rest = wakes-cost script (reply_to script entered asked reply) wakes
+    (reply-ends script entered asked.caller asked.ticket reply may)
+    in omega (arith, first, rest)
 
 -- ---- a call is served
 
 module _ (deeds : Deeds) (rise : ObjectsRise deeds) where
-  changed-size : (name : Name) (was : Body) (e : Effect) → get_named deeds name ≡ Some was
-      → (r : Reply) → size_of (put_all deeds (parts_in e.kernel (changed_names name r))) ≤ size_of deeds
-  changed-size name was e there (replies.Child child ending) =
-      size-put-there deeds name (body_in e.kernel name) was rise there
-  changed-size name was e there r = size-put-there deeds name (body_in e.kernel name) was rise there
+  changed-size : (name : Name) (was : Body) (k : Kernel) → get_named deeds name ≡ Some was
+      → (r : Option Reply) → size_of (put_all deeds (parts_in k (changed_names name r))) ≤ size_of deeds
+  changed-size name was k there (Some (replies.Child child ending)) =
+      size-put-there deeds name (whole_in k name) was rise there
+  changed-size name was k there r = size-put-there deeds name (whole_in k name) was rise there
 
-  served-on : (name : Name) (was : Body) (pid : ℕ) (call : Call) (o : Option Effect) (s : Served)
-      → get_named deeds name ≡ Some was → option_map (serve_by name) o ≡ Some s
+  served-on : (name : Name) (was : Body) (who : Waiting) (o : Option Effect) (s : Served)
+      → get_named deeds name ≡ Some was → option_map (serve_by name was who) o ≡ Some s
       → size_of (put_all deeds s.changes) ≤ size_of deeds
-  served-on name was pid call None s there h = not_some s h
-  served-on name was pid call (Some e) s there h =
+  served-on name was who None s there h = not_some s h
+  served-on name was who (Some e) s there h =
       subst (λ (x : Served). size_of (put_all deeds x.changes) ≤ size_of deeds) (from_some _ _ h)
-      (changed-size name was e there e.reply)
+      (changed-size name was e.kernel there e.own)
 
-  served-at : (name : Name) (pid : ℕ) (call : Call) (s : Served) (o : Option Body) → get_named deeds name ≡ o
-      → option_and_then (λ body. serve_on name body pid call) o ≡ Some s
+  served-at : (name : Name) (who : Waiting) (s : Served) (o : Option Body) → get_named deeds name ≡ o
+      → option_and_then (λ body. serve_on name body who) o ≡ Some s
       → size_of (put_all deeds s.changes) ≤ size_of deeds
-  served-at name pid call s None there h = not_some s h
-  served-at name pid call s (Some body) there h =
-      served-on name body pid call (effect (kernel_with name body) pid (actor body) call 0) s there h
+  served-at name who s None there h = not_some s h
+  served-at name who s (Some body) there h =
+      served-on name body who (effect (kernel_with name body) who (actor body) 0) s there h
 
-  served-by : (pid : ℕ) (call : Call) (s : Served) (o : Option Name) → serve_at deeds pid call o ≡ Some s
+  served-by : (who : Waiting) (s : Served) (o : Option Name) → serve_at deeds who o ≡ Some s
       → size_of (put_all deeds s.changes) ≤ size_of deeds
-  served-by pid call s None h = not_some s h
-  served-by pid call s (Some name) h = served-at name pid call s (get_named deeds name) refl h
+  served-by who s None h = not_some s h
+  served-by who s (Some name) h = served-at name who s (get_named deeds name) refl h
 
   not-if : (t : Bool) (o : Option Served) (s : Served) → (if t then None else o) ≡ Some s → o ≡ Some s
   not-if true o s h = not_some s h
   not-if false o s h = h
 
   -- it leaves as many queues and sets
-  pub served-size : (pid : ℕ) (call : Call) (s : Served) → serve deeds pid call ≡ Some s
+  pub served-size : (who : Waiting) (s : Served) → serve deeds who ≡ Some s
       → size_of (put_all deeds s.changes) ≤ size_of deeds
-  served-size pid call s h =
-      served-by pid call s (name_for pid call)
-      (not-if (makes_something call) (serve_at deeds pid call (name_for pid call)) s h)
+  served-size who s h =
+      served-by who s (name_for who.pid who.call)
+      (not-if (makes_something who.call) (serve_at deeds who (name_for who.pid who.call)) s h)
 
 -- ---- a name moves to who reads it
 
@@ -173,40 +270,52 @@ moved-costs : (script : Script) (s : Step) (name : Name) (o : Option ℕ)
 moved-costs script s name None = omega arith
 moved-costs script s name (Some to) = let n : Node = s.node in move-by script s name to (is_leader n) refl
 
+-- the node's number stays
+abbrev SameNumber : Step → Step → Type 0
+SameNumber s t = let n : Node = s.node in let m : Node = t.node in m.number ≡ n.number
+
 here-number : (script : Script) (s : Step) (reply : Reply) (o : Option Call)
-    → (let n : Node = s.node
-    in let t : Step = reply_here script s reply o
-    in let m : Node = t.node
-    in m.number ≡ n.number)
+    → SameNumber s (reply_here script s reply o)
 here-number script s reply None = refl
 here-number script s reply (Some call) = refl
 
-reply-number : (script : Script) (s : Step) (asked : Asked) (reply : Reply) (t : Bool)
-    → (let n : Node = s.node
-    in let u : Step = if t then reply_here script s reply (under_way_as s.node asked.ticket)
-    else send s asked.caller (frames.Answer asked.ticket reply)
-    in let m : Node = u.node
-    in m.number ≡ n.number)
-reply-number script s asked reply true = here-number script s reply (under_way_as s.node asked.ticket)
-reply-number script s asked reply false = refl
+reply-number : (script : Script) (s : Step) (caller ticket : ℕ) (reply : Reply)
+    → SameNumber s (reply_at script s caller ticket reply)
+reply-number script s caller ticket reply = let n : Node = s.node in by-test (nat_eq caller n.number)
+  where
+    by-test : (t : Bool)
+        → SameNumber s (if t then reply_here script s reply (under_way_as s.node ticket)
+        else send s caller (frames.Answer ticket reply))
+    by-test true = here-number script s reply (under_way_as s.node ticket)
+    by-test false = refl
 
-carried-number : (script : Script) (s : Step) (asked : Asked) (reply : Reply)
-    → (let n : Node = s.node
-    in let t : Step = carry_out script s asked reply
-    in let m : Node = t.node
-    in m.number ≡ n.number)
-carried-number script s asked reply =
-    let n : Node = s.node
-    in reply-number script (enter s asked.pid asked.call reply) asked reply (nat_eq asked.caller n.number)
+wakes-number : (script : Script) (s : Step) (wakes : List Wake) → SameNumber s (wake_all script s wakes)
+wakes-number script s [] = refl
+wakes-number script s (w ∷ wakes) =
+    wakes-number script (wake_one script s w) wakes ∙ reply-number script s w.caller w.ticket w.reply
 
-read-costs : (script : Script) (s : Step) (name : Name) (reader : ℕ) (t : Bool)
-    → step_weight script (if t then note_read s name reader else s)
-    ≤ step_weight script s + (let n : Node = s.node in move_cost (is_leader n))
-read-costs script s name reader true =
+waking-number : (script : Script) (s : Step) (asked : Asked) (own : Option Reply) (wakes : List Wake)
+    → SameNumber s (carry_out_waking script s asked own wakes)
+waking-number script s asked None wakes =
+    wakes-number script (enter_with s asked.pid asked.call (outcome_with None wakes)) wakes
+waking-number script s asked (Some reply) wakes =
+    let entered : Step = enter_with s asked.pid asked.call (outcome_with (Some reply) wakes)
+    in wakes-number script (reply_to script entered asked reply) wakes
+    ∙ reply-number script entered asked.caller asked.ticket reply
+
+-- what reading costs
+abbrev pub read_cost : Bool → Bool → ℕ
+read_cost nobody leads = if nobody then 0 else move_cost leads
+
+reads-cost : (script : Script) (s : Step) (name : Name) (readers : List ℕ)
+    → step_weight script (note_reads s name readers)
+    ≤ step_weight script s + (let n : Node = s.node in read_cost (is_empty readers) (is_leader n))
+reads-cost script s name [] = omega arith
+reads-cost script s name (reader ∷ readers) =
     let n : Node = s.node
-    in moved-costs script (with_node s (record n { watches = with_read n.watches n.number name reader })) name
-    (moves_to n.watches n.number name reader)
-read-costs script s name reader false = omega arith
+    in moved-costs script (with_node s (record n {
+      watches = with_reads n.watches n.number name (reader ∷ readers);
+    })) name (last_move n.watches n.number name (reader ∷ readers))
 
 -- what the node's table has rises, but for the leader, whose table isn't counted
 abbrev pub RisesBesides : Node → Type 0
@@ -226,44 +335,60 @@ deeds-by script s deeds false leads small =
     in omega (arith, low)
 
 with-served : (script : Script) (s : Step) (name : Name) (asked : Asked) (served : Served)
-    → (let n : Node = s.node in asked.caller ≡ n.number → MayEnd script n)
-    → (let n : Node = s.node in RisesBesides n)
-    → (let n : Node = s.node in serve n.deeds asked.pid asked.call ≡ Some served)
+    → (let n : Node = s.node in MayEndIf script n) → (let n : Node = s.node in RisesBesides n)
+    → (let n : Node = s.node in serve n.deeds (waiting_as asked) ≡ Some served)
     → step_weight script (serve_asked_with script s name asked served)
-    ≤ step_weight script s + (let n : Node = s.node in move_cost (is_leader n))
+    ≤ step_weight script s + (let n : Node = s.node in read_cost (is_empty served.readers) (is_leader n))
 with-served script s name asked served may rises is =
     let n : Node = s.node
-    in let changed : Step = with_deeds s (put_all n.deeds served.changes)
-    in let done : Step = carry_out script changed asked served.reply
+    in let struck : Step = with_strike s (is_struck n name asked.call)
+    in let changed : Step = with_deeds struck (put_all n.deeds served.changes)
+    in let done : Step = carry_out_waking script changed asked served.own served.wakes
     in let first : step_weight script changed ≤ step_weight script s =
     deeds-by script s (put_all n.deeds served.changes) (is_leader n) refl
-    (λ other. served-size n.deeds (rises other) asked.pid asked.call served is)
-    in let second = carried-costs script changed asked served.reply
-    (λ e. record { tries = (may e).tries; left = (may e).left })
-    in let third = read-costs script done name asked.caller (has_read asked.call served.reply)
-    in let same : move_cost (is_leader done.node) ≡ move_cost (is_leader n) =
-    ap (λ x. move_cost (nat_eq x 1)) (carried-number script changed asked served.reply)
+    (λ other. served-size n.deeds (rises other) (waiting_as asked) served is)
+    in let second = waking-costs script changed asked served.own served.wakes
+    (λ there. record { tries = (may there).tries; left = (may there).left })
+    in let third = reads-cost script done name served.readers
+    in let same : read_cost (is_empty served.readers) (is_leader done.node)
+    ≡ read_cost (is_empty served.readers) (is_leader n) =
+    ap (λ x. read_cost (is_empty served.readers) (nat_eq x 1))
+    (waking-number script changed asked served.own served.wakes)
     in omega (arith, first, second, third, same)
 
--- A call on a name is served.
+-- A call on a name is served. Where nobody reads that costs nothing.
 pub served-costs : (script : Script) (s t : Step) (name : Name) (asked : Asked)
-    → (let n : Node = s.node in asked.caller ≡ n.number → MayEnd script n)
+    → (let n : Node = s.node in MayEndIf script n)
     → (let n : Node = s.node in RisesBesides n) → serve_asked script s name asked ≡ Some t
-    → step_weight script t ≤ step_weight script s + (let n : Node = s.node in move_cost (is_leader n))
+    → step_weight script t
+    ≤ step_weight script s + (let n : Node = s.node in read_cost (nobody_reads n asked) (is_leader n))
 served-costs script s t name asked may rises h =
-    let n : Node = s.node in by-served (serve n.deeds asked.pid asked.call) refl h
+    let n : Node = s.node
+    in by-room (has_room s name asked) h
   where
-    by-served : (o : Option Served) → (let n : Node = s.node in serve n.deeds asked.pid asked.call ≡ o)
+    by-served : (o : Option Served) → (let n : Node = s.node in serve n.deeds (waiting_as asked) ≡ o)
         → option_map (serve_asked_with script s name asked) o ≡ Some t
-        → step_weight script t ≤ step_weight script s + (let n : Node = s.node in move_cost (is_leader n))
+        → step_weight script t
+        ≤ step_weight script s
+        + (let n : Node = s.node in read_cost (option_map_or (λ v. is_empty v.readers) o true) (is_leader n))
     by-served None e g = not_some t g
     by-served (Some served) e g =
         subst (λ (x : Step). step_weight script x
-        ≤ step_weight script s + (let n : Node = s.node in move_cost (is_leader n))) (from_some _ _ g)
-        (with-served script s name asked served may rises e)
+        ≤ step_weight script s + (let n : Node = s.node in read_cost (is_empty served.readers) (is_leader n)))
+        (from_some _ _ g) (with-served script s name asked served may rises e)
+
+    by-room : (room : Bool)
+        → (let n : Node = s.node
+        in if room
+        then option_map (serve_asked_with script s name asked) (serve n.deeds (waiting_as asked))
+        else Some s) ≡ Some t
+        → step_weight script t
+        ≤ step_weight script s + (let n : Node = s.node in read_cost (nobody_reads n asked) (is_leader n))
+    by-room true g = let n : Node = s.node in by-served (serve n.deeds (waiting_as asked)) refl g
+    by-room false g = let same : step_weight script s ≡ step_weight script t = ap (step_weight script) (from_some s t g)
+        in omega (arith, same)
 
 -- A call on a number that names nothing.
-pub nobody-costs : (script : Script) (s : Step) (name : Name) (asked : Asked)
-    → (let n : Node = s.node in asked.caller ≡ n.number → MayEnd script n)
+pub nobody-costs : (script : Script) (s : Step) (name : Name) (asked : Asked) → MayEndIf script s.node
     → step_weight script (serve_nobody script s name asked) ≤ step_weight script s
 nobody-costs script s name asked may = carried-costs script s asked (replies.Fail (no_such_name name)) may

@@ -1,5 +1,5 @@
 -- The calls that are held for a name: as many as nodes whose calls are held for it.
-use Rattle.std.proofs.Common.{◌≡◌, ℕ, zero, suc, ◌+◌, ◌*◌, ◌≤◌, ◌<◌, Bool, true, false, cond, if◌then◌else◌, List, [], ◌∷◌, length, filter, nat_eq, Option, Some, None, refl, ap, sym, ◌∙◌, inl, inr, arith}
+use Rattle.std.proofs.Common.{◌≡◌, ℕ, zero, suc, ◌+◌, ◌*◌, ◌≤◌, ◌<◌, Bool, true, false, ◌&&◌, not, cond, if◌then◌else◌, List, [], ◌∷◌, length, filter, nat_eq, Option, Some, None, refl, ap, sym, ◌∙◌, inl, inr, arith}
 use Rattle.std.specs.Prelude.{sum_by}
 use Rattle.std.specs.List.{AllByRecursion}
 use Rattle.std.proofs.lemmas.Bool.{cases_eq, eq-eqb, ne_eqb}
@@ -7,6 +7,7 @@ use Rattle.std.proofs.lemmas.List.Sums.{sum_by-cons}
 use Rattle.pico_base.specs.declared.call.Call.{Call}
 use Rattle.pico_base.specs.declared.numbers.Name.{Name}
 use Rattle.pico_base.specs.declared.script.Script.{Script}
+use Rattle.waiting_model.specs.Calls.{is_withdrawal}
 use Rattle.node_model.specs.declared.held.Held.{Held}
 use Rattle.node_model.specs.declared.held.Held.TheVariants.{Request, Ending}
 use Rattle.node_model.specs.Directory.{held_for}
@@ -14,11 +15,12 @@ use Rattle.node_model.specs.Kinds.{is_same_name}
 use Rattle.world_model.specs.Census.{one_if}
 use Rattle.world_model.specs.World.{World, node_count, numbers}
 use Rattle.world_laws.specs.Callers.{CallHolds, CallSight, HasCall, HasCallOrNone, HasNoCall, IsJustThere, IsNowhere, asked_of, call_sight, is_held_at, is_item_about, only_if}
-use Rattle.world_laws.specs.Invariant.{Holds}
-use Rattle.world_laws.specs.Places.{Beside, CallPlace, Idle, AsksLease, HasLease, InAsk, InRequest, InNotOwner, SentByPlace, SentByRange, InBounce, IsHeld, IsInHand, InAnswer, Ends}
+use Rattle.world_laws.specs.Invariant.{HoldsOwing}
+use Rattle.world_laws.specs.Places.{Beside, CallPlace, Idle, AsksLease, HasLease, InAsk, InRequest, InNotOwner, SentByPlace, SentByRange, InBounce, IsHeld, IsInHand, Parked, Waits, InAnswer, Ends}
 use Rattle.world_laws.specs.Sights.{directory_of, is_born_in}
 use Rattle.route_laws.proofs.release.TakenUp.{taken_up}
 use Rattle.weight_laws.specs.Weights.{call_at, call_weight, calls_weight}
+use Rattle.world_laws.specs.Cancels.{Owing}
 
 -- ---- sums over numbers
 
@@ -76,9 +78,9 @@ over-one c first (suc count) low high =
 
 -- ---- calls among items
 
--- an item is a call, or a parcel
+-- an item is a call, and no withdrawal or parcel
 abbrev pub is_request : Held → Bool
-is_request (Request asked) = true
+is_request (Request asked) = not (is_withdrawal asked.call)
 is_request (Ending parcel) = false
 
 -- how many calls there are
@@ -95,8 +97,25 @@ IsOfNode script (Ending parcel) = Unit {0}
 
 item-once : (script : Script) (item : Held) → IsOfNode script item
     → over (λ p. one_if (is_item_about p item)) 1 (node_count script) ≡ one_if (is_request item)
-item-once script (Request asked) of_node =
-    over-one asked.caller 1 (node_count script) of_node.0 (let high = of_node.1 in omega (arith, high))
+item-once script (Request asked) of_node = by-test (not (is_withdrawal asked.call))
+  where
+    and-true-right : (t : Bool) → (t && true) ≡ t
+    and-true-right true = refl
+    and-true-right false = refl
+
+    and-false-right : (t : Bool) → (t && false) ≡ false
+    and-false-right true = refl
+    and-false-right false = refl
+
+    by-test : (t : Bool) → over (λ p. one_if (nat_eq asked.caller p && t)) 1 (node_count script) ≡ one_if t
+    by-test true =
+        over-same (λ p. one_if (nat_eq asked.caller p && true)) (λ p. one_if (nat_eq asked.caller p)) 1
+        (node_count script) (λ p low high. ap one_if (and-true-right (nat_eq asked.caller p)))
+        ∙ over-one asked.caller 1 (node_count script) of_node.0 (let high = of_node.1 in omega (arith, high))
+    by-test false =
+        over-same (λ p. one_if (nat_eq asked.caller p && false)) (λ p. 0) 1 (node_count script)
+        (λ p low high. ap one_if (and-false-right (nat_eq asked.caller p)))
+        ∙ over-none 1 (node_count script)
 item-once script (Ending parcel) of_node = over-none 1 (node_count script)
 
 -- each call is of one node
@@ -133,7 +152,8 @@ only-length : (t : Bool) (item : Held) → length (only_if t item) ≡ one_if t
 only-length true item = refl
 only-length false item = refl
 
-module _ (script : Script) (w : World) (hand : List Held) (b : Beside) (holds : Holds script w hand b) (name : Name)
+module _ (script : Script) (w : World) (hand : List Held) {owes : Owing} (b : Beside)
+    (holds : HoldsOwing script w hand owes b) (name : Name)
   where
     abbrev x : ℕ → CallSight
     x p = call_sight w hand b p
@@ -187,6 +207,8 @@ up-weight name (SentByPlace to) = refl
 up-weight name (SentByRange to) = refl
 up-weight name (InBounce sender) = refl
 up-weight name IsInHand = refl
+up-weight name Parked = refl
+up-weight name (Waits other) = refl
 up-weight name (InAnswer sender reply) = refl
 up-weight name Ends = refl
 

@@ -1,6 +1,6 @@
 -- An event lowers the weight of a world where its step lowers what its node weighs, with the frames taken and sent and
 -- the places of calls.
-use Rattle.std.proofs.Common.{◌≡◌, ℕ, ◌+◌, ◌-◌, ◌≤◌, ◌<◌, List, Option, Some, None, refl, ap, sym, subst, ◌∙◌, arith}
+use Rattle.std.proofs.Common.{◌≡◌, ℕ, false, ◌+◌, ◌-◌, ◌≤◌, ◌<◌, List, Option, Some, None, option_map, refl, ap, sym, subst, ◌∙◌, arith}
 use Rattle.pico_base.specs.declared.script.Script.{Script}
 use Rattle.pico_base.specs.declared.script.Event.{Event}
 use Rattle.pico_base.specs.declared.script.Event.TheVariants as events
@@ -9,15 +9,18 @@ use Rattle.kernel_laws.proofs.Plain.{from_some, not_some}
 use Rattle.world_model.specs.Node.{Node}
 use Rattle.world_model.specs.Step.{Step}
 use Rattle.world_model.specs.Starting.{run}
-use Rattle.world_model.specs.Turn.{take_by_kind}
+use Rattle.world_model.specs.Strikes.{strike}
+use Rattle.world_model.specs.Turn.{take_by_kind, take_by_rules}
 use Rattle.world_model.specs.World.{World, node_at, node_count, world_after, after_turn, runs_at}
 use Rattle.world_laws.specs.ByRules.{step_by_rules}
 use Rattle.world_laws.specs.Places.{CallPlace, call_in}
 use Rattle.world_laws.specs.Sights.{node_of}
 use Rattle.world_laws.specs.Invariant.{IsShaped}
-use Rattle.world_laws.proofs.Steps.{Heads, world_without, take-steps, run-steps, node-there, turn-with}
-use Rattle.weight_laws.specs.Weights.{Falls, calls_weight, call_weight, frame_weight, node_weight, sends_weight, weight}
-use Rattle.weight_laws.proofs.Sums.{call-moves, sent-all, sum-set, taken-one}
+use Rattle.world_laws.proofs.Steps.{Heads, world_without, run-steps, node-there, struck-steps, turn-with, unstruck}
+use Rattle.weight_laws.specs.Weights.{Falls, calls_weight, call_weight, node_weight, send_weight, sends_weight, weight}
+use Rattle.weight_laws.proofs.Costs.{step_weight}
+use Rattle.rule_laws.proofs.own.Moved.{AreStill}
+use Rattle.weight_laws.proofs.Sums.{call-moves, calls-woken, sent-all, sum-set, taken-one}
 
 -- a step lowers what the node weighs, with the frame that it takes, and the calls
 pub record Lowers (script : Script) (n : Node) (taken : ℕ) (call call_after : ℕ → CallPlace) (s : Step) : Type 0 where
@@ -34,28 +37,55 @@ after-step script w p taken n s call call_after at l =
     in let low = l.lower
     in omega (arith, nodes, sent, low)
 
+-- whatever step the rule of the frame's kind has lowers the weight, before a strike
+abbrev pub TakesLower : Script → World → ℕ → ℕ → Frame → (ℕ → CallPlace) → (ℕ → CallPlace) → Type 0
+TakesLower script w p q frame call call_after =
+    (s : Step) → take_by_kind script (node_of w p) q frame ≡ Some s
+    → Lowers script (node_of w p) (send_weight (p, frame)) call call_after s
+
+-- the strike, which may move calls, too, costs nothing
+pub record StrikesLightly (script : Script) (s : Step) (call call_after : ℕ → CallPlace) : Type 0 where
+  pub light : step_weight script (strike script s) + calls_weight script call_after
+      ≤ step_weight script s + calls_weight script call
+
+-- nor does a step that strikes nobody
+pub calm-is-light : (script : Script) (s : Step) (call : ℕ → CallPlace) → s.strikes ≡ false
+    → StrikesLightly script s call call
+calm-is-light script s call calm =
+    let same : step_weight script (strike script s) ≡ step_weight script s =
+    ap (step_weight script) (unstruck script s calm)
+    in record { light = omega (arith, same) }
+
+struck-lowers : (script : Script) (n : Node) (taken : ℕ) (call mid call_after : ℕ → CallPlace) (s : Step)
+    → Lowers script n taken call mid s → StrikesLightly script s mid call_after
+    → Lowers script n taken call call_after (strike script s)
+struck-lowers script n taken call mid call_after s l strikes =
+    let low = l.lower in let light = strikes.light in record { lower = omega (arith, low, light) }
+
 -- A node that takes a frame.
 pub take-falls : (script : Script) (w : World) (p q : ℕ) (frame : Frame) (rest : List Frame)
-    (call call_after : ℕ → CallPlace)
-    → IsShaped script w → Heads script w p q frame rest
-    → ((s : Step) → take_by_kind script (node_of w p) q frame ≡ Some s
-    → Lowers script (node_of w p) (frame_weight frame) call call_after s)
+    (call mid call_after : ℕ → CallPlace)
+    → IsShaped script w → Heads script w p q frame rest → TakesLower script w p q frame call mid
+    → ((s : Step) → take_by_kind script (node_of w p) q frame ≡ Some s → StrikesLightly script s mid call_after)
     → Falls script w (events.Take p q) call call_after
-take-falls script w p q frame rest call call_after shape h lowers next is =
+take-falls script w p q frame rest call mid call_after shape h lowers strikes next is =
     by-rule (take_by_kind script (node_of w p) q frame) refl
   where
     by-rule : (o : Option Step) → take_by_kind script (node_of w p) q frame ≡ o
         → weight script next call_after < weight script w call
     by-rule None e =
         let stuck : step_by_rules w (events.Take p q) ≡ None =
-        turn-with take_by_kind script w p q frame rest shape h ∙ ap (after_turn (world_without w p q rest) p) e
+        turn-with take_by_rules script w p q frame rest shape h
+        ∙ ap (λ o. after_turn (world_without w p q rest) p (option_map (strike script) o)) e
         in not_some next (sym stuck ∙ is)
     by-rule (Some s) e =
-        let there : step_by_rules w (events.Take p q) ≡ Some (world_after (world_without w p q rest) p s) =
-        take-steps script w p q frame rest s shape h e
+        let there : step_by_rules w (events.Take p q)
+        ≡ Some (world_after (world_without w p q rest) p (strike script s)) =
+        struck-steps script w p q frame rest s shape h e
         in let lower =
-        after-step script (world_without w p q rest) p (frame_weight frame) (node_of w p) s call call_after
-        (node-there script w shape p h.low h.high) (lowers s e)
+        after-step script (world_without w p q rest) p (send_weight (p, frame)) (node_of w p) (strike script s) call
+        call_after (node-there script w shape p h.low h.high)
+        (struck-lowers script (node_of w p) (send_weight (p, frame)) call mid call_after s (lowers s e) (strikes s e))
         in let fewer = taken-one w.streams p q frame rest h.head
         in subst (λ v. weight script v call_after < weight script w call) (from_some _ _ (sym there ∙ is))
         (omega (arith, lower, fewer))
@@ -100,8 +130,23 @@ lowers-moved script n taken call p was place s low_p high_p is low =
     in let old : call_weight (call p) ≡ call_weight was = ap call_weight is
     in record { lower = omega (arith, low, moved, old) }
 
--- the same with calls that are in the same places
-pub falls-alike : (script : Script) (w : World) (e : Event) (call call_after other : ℕ → CallPlace)
-    → ((p : ℕ) → call_after p ≡ other p) → Falls script w e call call_after → Falls script w e call other
-falls-alike script w e call call_after other same falls =
-    subst (λ c. Falls script w e call c) (λ i p. same p i) falls
+-- the same with calls that are in the same places, or are woken
+
+pub lowers-woken : (script : Script) (n : Node) (taken : ℕ) (call call_after other : ℕ → CallPlace) (s : Step)
+    → AreStill call_after other → Lowers script n taken call call_after s → Lowers script n taken call other s
+lowers-woken script n taken call call_after other s still l =
+    let low = l.lower in let fewer =
+    calls-woken script call_after other still in record { lower = omega (arith, low, fewer) }
+
+-- a frame that lowers the weight lowers it with those places, too
+pub takes-woken : (script : Script) (w : World) (p q : ℕ) (frame : Frame) (call call_after other : ℕ → CallPlace)
+    → AreStill call_after other → TakesLower script w p q frame call call_after
+    → TakesLower script w p q frame call other
+takes-woken script w p q frame call call_after other still lowers s is =
+    lowers-woken script (node_of w p) (send_weight (p, frame)) call call_after other s still (lowers s is)
+
+-- and so does an event
+pub falls-woken : (script : Script) (w : World) (e : Event) (call call_after other : ℕ → CallPlace)
+    → AreStill call_after other → Falls script w e call call_after → Falls script w e call other
+falls-woken script w e call call_after other still falls next is =
+    let low = falls next is in let fewer = calls-woken script call_after other still in omega (arith, low, fewer)

@@ -29,6 +29,7 @@ use Rattle.weight_laws.proofs.Arrivals.{AreProcesses, ItemsFit}
 use Rattle.weight_laws.proofs.Ends.{EndsFree, exit-free}
 use Rattle.weight_laws.proofs.Hand.{IsRemovalOnly, RemovalsAreOf, RemovesOnly}
 use Rattle.weight_laws.proofs.HandEnds.{names-are-processes}
+use Rattle.weight_laws.proofs.Costs.{MayEndIf}
 
 -- removals of two hands in one
 pub removals-both : (name : Name) (xs ys : List Held) → RemovalsAreOf name xs → RemovalsAreOf name ys
@@ -65,7 +66,7 @@ module _ (name : Name) where
       (held-all-only d fit names all.1)
 
 module _ (script : Script) (name : Name) (parcel : Parcel) (packed : IsPacked parcel) (s : Step)
-    (fit : ItemsFit (directory_in s)) where
+    (fit : ItemsFit (directory_in s)) (may : MayEndIf script s.node) where
   abbrev FreesOnly : AfterEnd → Type 0
   FreesOnly (IsHeld t) = Unit {0}
   FreesOnly (Releases t items) = RemovalsAreOf name items
@@ -75,30 +76,30 @@ module _ (script : Script) (name : Name) (parcel : Parcel) (packed : IsPacked pa
       held-all-only name (directory_in u) (subst ItemsFit (sym same) fit) (names_in parcel)
       (names-are-processes parcel packed)
 
-  carried-out : (node : ℕ) (after : AfterEnd) (o : Option Step) → exit_here s parcel ≡ o
+  carried-out : (node : ℕ) (after : AfterEnd) (o : Option Step) → exit_here script s parcel ≡ o
       → option_map (release_names parcel node) o ≡ Some after → FreesOnly after
   carried-out node after None e h = not_some after h
   carried-out node after (Some u) e h =
-      let free : EndsFree script s u = exit-free script s parcel u e
+      let free : EndsFree script s u = exit-free script s parcel may u e
       in subst FreesOnly (from_some (release_names parcel node u) after h) (released u node free.directory)
 
   end-at : (node : ℕ) (after : AfterEnd) (t : Bool)
-      → (if t then option_map (release_names parcel node) (exit_here s parcel)
+      → (if t then option_map (release_names parcel node) (exit_here script s parcel)
       else Some (release_names parcel node (send s node (frames.ExitTo parcel)))) ≡ Some after
       → FreesOnly after
-  end-at node after true h = carried-out node after (exit_here s parcel) refl h
+  end-at node after true h = carried-out node after (exit_here script s parcel) refl h
   end-at node after false h =
       let u : Step = send s node (frames.ExitTo parcel)
       in subst FreesOnly (from_some (release_names parcel node u) after h) (released u node refl)
 
-  end-place : (after : AfterEnd) (o : Option Place) → end_by s parcel o ≡ Some after → FreesOnly after
+  end-place : (after : AfterEnd) (o : Option Place) → end_by script s parcel o ≡ Some after → FreesOnly after
   end-place after None h = not_some after h
   end-place after (Some (At node)) h = let n : Node = s.node in end-at node after (nat_eq node n.number) h
   end-place after (Some (Coming to items)) h =
       subst FreesOnly (from_some (IsHeld (hold_item s (Proc parcel.parent) (Ending parcel))) after h) tt
 
   -- So no removal is among it.
-  pub frees-no-removal : (next : Step) (items : List Held) → end_process s parcel ≡ Some (Releases next items)
+  pub frees-no-removal : (next : Step) (items : List Held) → end_process script s parcel ≡ Some (Releases next items)
       → RemovalsAreOf name items
   frees-no-removal next items h =
       end-place (Releases next items) (place_of (directory_in s) (Proc parcel.parent)) h

@@ -1,6 +1,6 @@
 -- A deed comes back to the leader: with what was held for its name in hand, and its step begun, the weight is lower. So
 -- it is afterwards, where the release of the hand makes it no heavier.
-use Rattle.std.proofs.Common.{◌≡◌, ℕ, ◌+◌, ◌*◌, ◌≤◌, Bool, true, not, ◌&&◌, List, [], ◌∷◌, nat_eq, is_none, Option, Some, None, option_and_then, refl, ap, sym, ◌∙◌, arith}
+use Rattle.std.proofs.Common.{◌≡◌, ℕ, ◌+◌, ◌*◌, ◌≤◌, Bool, true, false, not, ◌&&◌, List, [], ◌∷◌, nat_eq, is_none, Option, Some, None, option_and_then, refl, ap, sym, ◌∙◌, arith, if◌then◌else◌}
 use Rattle.std.specs.Prelude.{count_by, sum_by}
 use Rattle.std.specs.List.{AllByRecursion}
 use Rattle.std.proofs.lemmas.Bool.{false≢true}
@@ -9,7 +9,6 @@ use Rattle.pico_base.specs.declared.call.Home.{Home}
 use Rattle.pico_base.specs.declared.call.Home.TheVariants as homes
 use Rattle.pico_base.specs.declared.numbers.Name.{Name}
 use Rattle.pico_base.specs.declared.script.Script.{Script}
-use Rattle.pico_base.specs.declared.script.Event.TheVariants as events
 use Rattle.pico_base.specs.Home.{home_of}
 use Rattle.rpc_frame.specs.declared.deed.PackedDeed.{PackedDeed}
 use Rattle.rpc_frame.specs.declared.frame.Frame.{Frame}
@@ -21,7 +20,7 @@ use Rattle.node_model.specs.declared.held.Held.TheVariants.{Request, Ending}
 use Rattle.node_model.specs.Directory.{At, Coming, Directory, Place, arrive, bound_for, destination_of, held_for, is_coming, is_coming_to, is_known, is_parcel, items_of, place_of}
 use Rattle.node_model.specs.Spelling.{read_deed}
 use Rattle.world_model.specs.Census.{one_if}
-use Rattle.world_model.specs.Moves.{come_back, goes_on_to, is_new_here, keep, pass_on, take_give_back}
+use Rattle.world_model.specs.Moves.{come_back, goes_on_to, is_new_here, keep, pass_on, take_give_back, has_nodes}
 use Rattle.world_model.specs.Node.{Node, is_leader}
 use Rattle.world_model.specs.Releases.{release}
 use Rattle.world_model.specs.Step.{Step}
@@ -36,13 +35,14 @@ use Rattle.world_laws.proofs.Named.{same-name-is}
 use Rattle.world_laws.proofs.Steps.{Heads}
 use Rattle.rule_laws.proofs.Places.{place-with-same}
 use Rattle.route_laws.proofs.release.TakenUp.{taken_up}
-use Rattle.weight_laws.specs.Weights.{Falls, calls_weight, cost_if, destination_weight, directory_weight, is_away, item_weight, middle_weight, node_weight, routing_weight}
+use Rattle.weight_laws.specs.Weights.{calls_weight, cost_if, destination_weight, directory_weight, is_away, item_weight, middle_weight, node_weight, routing_weight, is_held_cancel}
 use Rattle.weight_laws.proofs.Costs.{table-none}
 use Rattle.weight_laws.proofs.Counts.{IsOfNode, calls-taken-up, filtered, held-count, is_request, requests_in}
-use Rattle.weight_laws.proofs.Events.{Lowers, take-falls}
+use Rattle.weight_laws.proofs.Events.{Lowers, TakesLower}
 use Rattle.weight_laws.proofs.Hand.{IsRemovalOnly, RemovalsAreOf, RemovesOnly, back-low, back_weight, none-back}
 use Rattle.weight_laws.proofs.Routes.{IsComing}
 use Rattle.weight_laws.proofs.Parts.{and-left, and-right, passed, place-replaces}
+use Rattle.waiting_model.specs.Calls.{is_withdrawal}
 
 -- ---- what is held for a name
 
@@ -68,15 +68,25 @@ ones test items = sum_by (λ item. one_if (test item)) items
 pub parcels-counted : (items : List Held) → ones is_parcel items ≡ count_by is_parcel items
 parcels-counted items = filtered is_parcel items ∙ length-filter is_parcel items
 
+-- and withdrawals
+pub cancels-counted : (items : List Held) → ones is_held_cancel items ≡ count_by is_held_cancel items
+cancels-counted items = filtered is_held_cancel items ∙ length-filter is_held_cancel items
+
 item-costs : (d : Directory) (name : Name) → is_known d name ≡ true → (item : Held) → IsItemFor name item
-    → item_weight d item ≤ 7 * one_if (is_request item) + one_if (is_parcel item)
+    → item_weight d item ≤ 7 * one_if (is_request item) + (one_if (is_parcel item) + 3 * one_if (is_held_cancel item))
 item-costs d name known (Request asked) on =
-    let cost = known-home d name known (home_of asked.pid asked.call) on in omega (arith, cost)
+    by-test (is_withdrawal asked.call) (known-home d name known (home_of asked.pid asked.call) on)
+  where
+    by-test : (t : Bool) → routing_weight d (home_of asked.pid asked.call) ≤ 7
+        → (if t then 3 else routing_weight d (home_of asked.pid asked.call)) ≤ 7 * one_if (not t) + (0 + 3 * one_if t)
+    by-test true cost = omega arith
+    by-test false cost = omega (arith, cost)
 item-costs d name known (Ending parcel) on = omega arith
 
 items-by-one : (d : Directory) (name : Name) → is_known d name ≡ true → (items : List Held)
     → AllByRecursion (IsItemFor name) items
-    → sum_by (item_weight d) items ≤ 7 * requests_in items + ones is_parcel items
+    → sum_by (item_weight d) items
+    ≤ 7 * requests_in items + (ones is_parcel items + 3 * ones is_held_cancel items)
 items-by-one d name known [] all = omega arith
 items-by-one d name known (item ∷ items) all =
     let rest = items-by-one d name known items all.1
@@ -84,16 +94,22 @@ items-by-one d name known (item ∷ items) all =
     in let now = sum_by-cons (item_weight d) item items
     in let calls = sum_by-cons (λ i. one_if (is_request i)) item items
     in let parcels = sum_by-cons (λ i. one_if (is_parcel i)) item items
-    in omega (arith, rest, one, now, calls, parcels)
+    in let cancels = sum_by-cons (λ i. one_if (is_held_cancel i)) item items
+    in omega (arith, rest, one, now, calls, parcels, cancels)
 
--- In hand, for a name that is known, a call may cost 7 and a parcel 1.
+-- what held items weigh besides calls
+abbrev pub besides_calls : List Held → ℕ
+besides_calls items = count_by is_parcel items + 3 * count_by is_held_cancel items
+
+-- In hand, for a name that is known, a call may cost 7, a parcel 1 and a withdrawal 3.
 pub items-cost : (d : Directory) (name : Name) → is_known d name ≡ true → (items : List Held)
     → AllByRecursion (IsItemFor name) items
-    → sum_by (item_weight d) items ≤ 7 * requests_in items + count_by is_parcel items
+    → sum_by (item_weight d) items ≤ 7 * requests_in items + besides_calls items
 items-cost d name known items all =
     let cost = items-by-one d name known items all
     in let count = parcels-counted items
-    in omega (arith, cost, count)
+    in let cancels = cancels-counted items
+    in omega (arith, cost, count, cancels)
 
 removal-only : (name : Name) (home : Home) → is_home_on name home ≡ true → RemovesOnly name home
 removal-only name (homes.Removal other) on = sym (same-name-is name other on)
@@ -150,16 +166,16 @@ module _ (script : Script) (w : World) (b : Beside) (holds : Holds script w [] b
 
   -- the name's place is a node
   freed : (node : ℕ)
-      → directory_weight (arrive d name node) + destination_weight coming.to + count_by is_parcel items
+      → directory_weight (arrive d name node) + destination_weight coming.to + besides_calls items
       ≤ directory_weight d
   freed node =
       let less = place-replaces d name (At node) (Coming coming.to coming.items) holds.leading coming.is
-      in let same : count_by is_parcel items ≡ count_by is_parcel coming.items =
-      ap (λ o. count_by is_parcel (items_of o)) coming.is
+      in let same : besides_calls items ≡ besides_calls coming.items =
+      ap (λ o. besides_calls (items_of o)) coming.is
       in omega (arith, less, same)
 
   cost-there : (node : ℕ)
-      → sum_by (item_weight (arrive d name node)) items ≤ 7 * requests_in items + count_by is_parcel items
+      → sum_by (item_weight (arrive d name node)) items ≤ 7 * requests_in items + besides_calls items
   cost-there node =
       items-cost (arrive d name node) name (ap (λ o. not (is_none o)) (place-with-same d name (At node))) items
       items-are-for
@@ -244,7 +260,9 @@ module _ (script : Script) (w : World) (b : Beside) (holds : Holds script w [] b
       → IsComing (place_of (directory_of w) packed.name) → ReleaseIsLight
       → option_and_then (come_back script m packed.name) o ≡ Some t → Lowers script m 1 b.call call_after t
   by-body t None e coming light is = not_some t is
-  by-body t (Some body) e coming light is = ended body t e coming light is
+  by-body t (Some body) e coming light is =
+      ended body t e coming light
+      (passed (has_nodes script body) (release script held (begun body)) t is).1
 
   give-back-lowers : ReleaseIsLight → (t : Step) → take_give_back script m q packed ≡ Some t
       → Lowers script m 1 b.call call_after t
@@ -255,6 +273,5 @@ module _ (script : Script) (w : World) (b : Beside) (holds : Holds script w [] b
       (coming-is (place_of (directory_of w) packed.name) (and-left _ _ (and-right _ _ test.0))) light test.1
 
   -- So the event lowers the weight.
-  pub give-back-falls : ReleaseIsLight → Falls script w (events.Take 1 q) b.call call_after
-  give-back-falls light =
-      take-falls script w 1 q (frames.GiveBack packed) rest b.call call_after holds.shape h (give-back-lowers light)
+  pub give-back-falls : ReleaseIsLight → TakesLower script w 1 q (frames.GiveBack packed) b.call call_after
+  give-back-falls light = give-back-lowers light

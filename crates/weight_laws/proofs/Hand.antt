@@ -1,5 +1,5 @@
 -- The leader's hand: what the items that stay in it weigh with another directory.
-use Rattle.std.proofs.Common.{◌≡◌, ℕ, ◌+◌, ◌≤◌, Bool, true, false, ◌||◌, List, [], ◌∷◌, refl, ap, ◌∙◌, arith}
+use Rattle.std.proofs.Common.{◌≡◌, ℕ, ◌+◌, ◌≤◌, Bool, true, false, ◌||◌, if◌then◌else◌, List, [], ◌∷◌, refl, ap, ◌∙◌, arith}
 use Rattle.std.specs.Prelude.{sum_by}
 use Rattle.std.specs.List.{AllByRecursion, list_any}
 use Rattle.std.proofs.lemmas.Bool.{false≢true}
@@ -10,6 +10,7 @@ use Rattle.pico_base.specs.declared.numbers.Name.{Name}
 use Rattle.pico_base.specs.declared.script.Script.{Script}
 use Rattle.pico_base.specs.Home.{home_of}
 use Rattle.rpc_frame.specs.declared.asked.Asked.{Asked}
+use Rattle.waiting_model.specs.Calls.{is_withdrawal}
 use Rattle.node_model.specs.declared.held.Held.{Held}
 use Rattle.node_model.specs.declared.held.Held.TheVariants.{Request, Ending}
 use Rattle.node_model.specs.Directory.{Directory, is_known, place_of}
@@ -40,7 +41,13 @@ routing-less d d' knows homes.Keys = omega arith
 routing-less d d' knows homes.Parent = omega arith
 
 item-less : (d d' : Directory) → KnowsMore d d' → (item : Held) → item_weight d' item ≤ item_weight d item
-item-less d d' knows (Request asked) = routing-less d d' knows (home_of asked.pid asked.call)
+item-less d d' knows (Request asked) = by-test (is_withdrawal asked.call)
+  where
+    by-test : (t : Bool)
+        → (if t then 3 else routing_weight d' (home_of asked.pid asked.call))
+        ≤ (if t then 3 else routing_weight d (home_of asked.pid asked.call))
+    by-test true = omega arith
+    by-test false = routing-less d d' knows (home_of asked.pid asked.call)
 item-less d d' knows (Ending parcel) = omega arith
 
 -- with more known names it may cost less

@@ -33,9 +33,9 @@ use Rattle.route_laws.proofs.release.EndedParcels.{IsPacked}
 use Rattle.route_laws.proofs.exits.Arrivals.{AreApart, names-apart}
 use Rattle.route_laws.proofs.exits.Released.{call_released}
 use Rattle.route_laws.proofs.release.RoutedParcels.{directory_in}
-use Rattle.weight_laws.specs.Weights.{calls_weight, directory_weight, hand_weight, is_away, item_weight, middle_weight}
+use Rattle.weight_laws.specs.Weights.{calls_weight, directory_weight, hand_weight, is_away, is_held_cancel, item_weight, middle_weight}
 use Rattle.weight_laws.proofs.Arrivals.{AreProcesses, HeldAsCounted, ItemsFit, arrivals-fewer, arrivals-free, arrivals-know, arrivals-known, calls-released, released-back, released-cost}
-use Rattle.weight_laws.proofs.Costs.{step_weight}
+use Rattle.weight_laws.proofs.Costs.{MayEndIf, step_weight}
 use Rattle.weight_laws.proofs.Ends.{EndsFree, exit-free}
 use Rattle.weight_laws.proofs.Hand.{FewerAway, back-less, back_weight, items-less}
 use Rattle.weight_laws.proofs.Known.{knows-with}
@@ -60,6 +60,15 @@ one-more-parcel items parcel =
     in let one = length-filter is_parcel items
     in let parts = ap length (filter-append is_parcel items (Ending parcel ∷ []))
     ∙ length-append (filter is_parcel items) (filter is_parcel (Ending parcel ∷ []))
+    in omega (arith, both, one, parts)
+
+no-more-cancels : (items : List Held) (parcel : Parcel)
+    → count_by is_held_cancel (items ++ Ending parcel ∷ []) ≡ count_by is_held_cancel items
+no-more-cancels items parcel =
+    let both = length-filter is_held_cancel (items ++ Ending parcel ∷ [])
+    in let one = length-filter is_held_cancel items
+    in let parts = ap length (filter-append is_held_cancel items (Ending parcel ∷ []))
+    ∙ length-append (filter is_held_cancel items) (filter is_held_cancel (Ending parcel ∷ []))
     in omega (arith, both, one, parts)
 
 -- what is taken of the leader in the middle of its event
@@ -136,6 +145,7 @@ module _ (script : Script) (call : ℕ → CallPlace) (parcel : Parcel) (packed 
       ap (hold_at d (Proc parcel.parent) (Ending parcel)) e
       in let weighs = place-replaces d (Proc parcel.parent) place (Coming to items) tended.leads e
       in let count = one-more-parcel items parcel
+      in let cancels = no-more-cancels items parcel
       in let directory : directory_weight (hold d (Proc parcel.parent) (Ending parcel)) ≡ directory_weight d' =
       ap directory_weight same
       in let hand : hand_weight (hold d (Proc parcel.parent) (Ending parcel)) rest ≡ hand_weight d' rest =
@@ -143,7 +153,7 @@ module _ (script : Script) (call : ℕ → CallPlace) (parcel : Parcel) (packed 
       in let less = items-less d d' (knows-with d (Proc parcel.parent) place) rest
       in let back = back-less d d' (held-fewer d to (items ++ Ending parcel ∷ [])) rest
       in let first = sum_by-cons (item_weight d) (Ending parcel) rest
-      in omega (arith, weighs, count, directory, hand, less, back, first)
+      in omega (arith, weighs, count, cancels, directory, hand, less, back, first)
 
   -- ---- by the parent's place
 
@@ -153,38 +163,41 @@ module _ (script : Script) (call : ℕ → CallPlace) (parcel : Parcel) (packed 
   EndLowers s (Releases t items) =
       middle_weight script t (items ++ rest) calls_freed ≤ middle_weight script s (Ending parcel ∷ rest) call
 
-  carried-out : (s : Step) (node : ℕ) (after : AfterEnd) (o : Option Step) → exit_here s parcel ≡ o
+  carried-out : (s : Step) (may : MayEndIf script s.node) (node : ℕ) (after : AfterEnd) (o : Option Step)
+      → exit_here script s parcel ≡ o
       → IsTended script call (directory_in s)
       → option_map (release_names parcel node) o ≡ Some after → EndLowers s after
-  carried-out s node after None e tended h = not_some after h
-  carried-out s node after (Some u) e tended h =
-      let free : EndsFree script s u = exit-free script s parcel u e
+  carried-out s may node after None e tended h = not_some after h
+  carried-out s may node after (Some u) e tended h =
+      let free : EndsFree script s u = exit-free script s parcel may u e
       in let cost = free.costs
       in subst (EndLowers s) (from_some (release_names parcel node u) after h)
       (released s u node 0 (omega arith) (omega (arith, cost)) free.directory tended)
 
-  end-at : (s : Step) (node : ℕ) (after : AfterEnd) (t : Bool) → IsTended script call (directory_in s)
-      → (if t then option_map (release_names parcel node) (exit_here s parcel)
+  end-at : (s : Step) (may : MayEndIf script s.node) (node : ℕ) (after : AfterEnd) (t : Bool)
+      → IsTended script call (directory_in s)
+      → (if t then option_map (release_names parcel node) (exit_here script s parcel)
       else Some (release_names parcel node (send s node (frames.ExitTo parcel)))) ≡ Some after
       → EndLowers s after
-  end-at s node after true tended h = carried-out s node after (exit_here s parcel) refl tended h
-  end-at s node after false tended h =
+  end-at s may node after true tended h = carried-out s may node after (exit_here script s parcel) refl tended h
+  end-at s may node after false tended h =
       let u : Step = send s node (frames.ExitTo parcel)
       in let one = sends-push s.sends (node, frames.ExitTo parcel)
       in subst (EndLowers s) (from_some (release_names parcel node u) after h)
       (released s u node 1 (omega arith) (omega (arith, one)) refl tended)
 
-  end-place : (s : Step) (after : AfterEnd) (o : Option Place) → place_of (directory_in s) (Proc parcel.parent) ≡ o
-      → IsTended script call (directory_in s) → end_by s parcel o ≡ Some after → EndLowers s after
-  end-place s after None e tended h = not_some after h
-  end-place s after (Some (At node)) e tended h =
-      let n : Node = s.node in end-at s node after (nat_eq node n.number) tended h
-  end-place s after (Some (Coming to items)) e tended h =
+  end-place : (s : Step) (may : MayEndIf script s.node) (after : AfterEnd) (o : Option Place)
+      → place_of (directory_in s) (Proc parcel.parent) ≡ o
+      → IsTended script call (directory_in s) → end_by script s parcel o ≡ Some after → EndLowers s after
+  end-place s may after None e tended h = not_some after h
+  end-place s may after (Some (At node)) e tended h =
+      let n : Node = s.node in end-at s may node after (nat_eq node n.number) tended h
+  end-place s may after (Some (Coming to items)) e tended h =
       subst (EndLowers s) (from_some (IsHeld (hold_item s (Proc parcel.parent) (Ending parcel))) after h)
       (held s to items e tended)
 
   -- The end of the first parcel.
-  pub end-lowers : (s : Step) (after : AfterEnd) → IsTended script call (directory_in s)
-      → end_process s parcel ≡ Some after → EndLowers s after
-  end-lowers s after tended h =
-      end-place s after (place_of (directory_in s) (Proc parcel.parent)) refl tended h
+  pub end-lowers : (s : Step) (may : MayEndIf script s.node) (after : AfterEnd) → IsTended script call (directory_in s)
+      → end_process script s parcel ≡ Some after → EndLowers s after
+  end-lowers s may after tended h =
+      end-place s may after (place_of (directory_in s) (Proc parcel.parent)) refl tended h

@@ -1,6 +1,6 @@
 -- In the middle of an event: a call that has a route, and a parcel that comes to its end, with all that holds and the
 -- calls in their places, leave the leader's step no heavier.
-use Rattle.std.proofs.Common.{◌≡◌, ◌≤◌, List, ◌∷◌, ◌++◌, Some, ap, sym, subst, ◌∙◌}
+use Rattle.std.proofs.Common.{◌≡◌, ◌≤◌, List, ◌∷◌, ◌++◌, Some, ap, sym, subst, arith}
 use Rattle.std.specs.List.{AllByRecursion}
 use Rattle.pico_base.specs.declared.call.Home.TheVariants as homes
 use Rattle.pico_base.specs.declared.numbers.Name.{Name}
@@ -16,12 +16,16 @@ use Rattle.world_model.specs.Ends.{AfterEnd, IsHeld, Releases, end_process, name
 use Rattle.world_model.specs.Node.{Node}
 use Rattle.world_model.specs.Step.{Step}
 use Rattle.world_model.specs.World.{World, node_count, world_after}
-use Rattle.world_laws.specs.Callers.{HasCall, HasTryLeft, call_sight, is_held_at}
-use Rattle.world_laws.specs.Invariant.{Holds, IsLeading, IsShaped}
+use Rattle.world_laws.specs.Callers.{is_held_at}
+use Rattle.world_laws.specs.Cancels.{Owing}
+use Rattle.world_laws.specs.Families.{PidsHold}
+use Rattle.world_laws.specs.Invariant.{HoldsOwing, IsLeading}
 use Rattle.world_laws.specs.Names.{NameHolds, name_sight}
 use Rattle.world_laws.specs.Places.{Beside, CallPlace, call_in}
-use Rattle.world_laws.specs.Sights.{directory_of, is_born_in, node_of}
-use Rattle.route_laws.proofs.hand.HandMoves.{first}
+use Rattle.world_laws.specs.Sights.{directory_of, is_born_in}
+use Rattle.rule_laws.proofs.own.Moved.{AreStill, IsMoved}
+use Rattle.route_laws.proofs.Owed.{HoldsAt, nobody_reads}
+use Rattle.route_laws.proofs.hand.HandMoves.{IsCallOf, first}
 use Rattle.route_laws.proofs.hand.Routes.{RouteKeeps, leader-number}
 use Rattle.route_laws.proofs.hand.ReadRoutes.{HasRoute, PlaceFits}
 use Rattle.route_laws.proofs.release.Rounds.{first-is-packed, leader-in-step}
@@ -29,30 +33,48 @@ use Rattle.route_laws.proofs.exits.Released.{call_released}
 use Rattle.route_laws.proofs.release.RoutedParcels.{directory_in}
 use Rattle.weight_laws.specs.Weights.{call_weight, middle_weight}
 use Rattle.weight_laws.proofs.Arrivals.{ItemsFit}
-use Rattle.weight_laws.proofs.Costs.{MayEnd}
+use Rattle.weight_laws.proofs.CallHeads.{may-end-if}
+use Rattle.weight_laws.proofs.Costs.{MayEndIf}
 use Rattle.weight_laws.proofs.Counts.{IsOfNode, held-count, over, requests_in}
 use Rattle.weight_laws.proofs.Hand.{RemovalsAreOf, RemovesOnly, first-goes}
 use Rattle.weight_laws.proofs.HandEnds.{EndLowers, IsTended, end-lowers}
 use Rattle.weight_laws.proofs.Routes.{place_limit, placed-light, route-lowers}
+use Rattle.weight_laws.proofs.Sums.{calls-woken}
 
--- the call has a route that keeps all, and then only it is in another place, which weighs no more than its route says
+-- what a call's route allows it to weigh where it is then
+abbrev pub IsRoutedBy : Step → Asked → CallPlace → Type 0
+IsRoutedBy s asked place =
+    call_weight place ≤ place_limit (nobody_reads s.node asked) (directory_in s) (home_of asked.pid asked.call)
+
+-- the call has a route that keeps all, and then it is in another place, which weighs no more than its route says, and
+-- others may be woken
 pub record LightRoute (script : Script) (v : World) (s : Step) (asked : Asked) (rest : List Held) (b : Beside) : Type 0
   where
     pub beside : Beside
     pub keeps : RouteKeeps script v s asked rest beside
-    pub place : CallPlace
-    pub calls : beside.call ≡ call_in b.call asked.caller place
-    pub light : call_weight place ≤ place_limit (directory_in s) (home_of asked.pid asked.call)
+    pub moved : IsMoved b.call beside.call asked.caller (IsRoutedBy s asked)
 
 -- what is in hand and held is of nodes of the script
 pub record IsOfNodes (script : Script) (s : Step) (hand : List Held) : Type 0 where
   pub in_hand : AllByRecursion (IsOfNode script) hand
   pub held : (m : Name) → AllByRecursion (IsOfNode script) (held_for (directory_in s) m)
 
-module _ (script : Script) (v : World) (s : Step) (hand : List Held) (b : Beside)
-    (holds : Holds script (world_after v 1 s) hand b) where
+module _ (script : Script) (v : World) (s : Step) (hand : List Held) {owes : Owing} (b : Beside)
+    (holds : HoldsOwing script (world_after v 1 s) hand owes b) where
   same-directory : directory_of (world_after v 1 s) ≡ directory_in s
   same-directory = ap (λ (n : Node). n.leader.directory) (leader-in-step script v s hand b holds)
+
+  -- a call that is under way at the leader may be answered
+  pub may-end : MayEndIf script s.node
+  may-end =
+      subst (MayEndIf script) (leader-in-step script v s hand b holds)
+      (may-end-if script (world_after v 1 s) hand b holds 1 (omega arith) high-one)
+    where
+      high-one : 1 ≤ node_count script
+      high-one =
+          let pids : PidsHold script b.pids b.places b.kernel = holds.pids
+          in let both = pids.nodes 1 (λ e. omega (arith, e, pids.first))
+          in both.1
 
   -- the leader knows each name once
   pub leading-in-step : IsLeading (directory_in s)
@@ -82,50 +104,24 @@ module _ (script : Script) (v : World) (s : Step) (hand : List Held) (b : Beside
 
 -- a route says that
 pub light-route : (script : Script) (v : World) (s : Step) (asked : Asked) (rest : List Held) (b : Beside)
-    → Holds script (world_after v 1 s) (Request asked ∷ rest) b → HasRoute script v s asked rest b
-    → LightRoute script v s asked rest b
-light-route script v s asked rest b holds r =
-    record {
+    → HasRoute script v s asked rest b → LightRoute script v s asked rest b
+light-route script v s asked rest b r =
+    let after : Beside = r.beside
+    in let m : IsMoved b.call after.call asked.caller (PlaceFits s.node asked) = r.moved
+    in record {
       beside = r.beside;
       keeps = r.keeps;
-      place = r.place;
-      calls = r.calls;
-      light = placed-light (directory_in s) (home_of asked.pid asked.call) r.place
-          (subst (λ (d : Directory). PlaceFits d (home_of asked.pid asked.call) r.place)
-          (same-directory script v s (Request asked ∷ rest) b holds) r.fits);
+      moved = record { place = m.place; calls = m.calls; fits = placed-light s.node asked m.place m.fits };
     }
 
 module _ (script : Script) (v : World) (s : Step) (asked : Asked) (rest : List Held) (b : Beside)
-    (holds : Holds script (world_after v 1 s) (Request asked ∷ rest) b)
-    (of_nodes : IsOfNodes script s (Request asked ∷ rest)) (name : Name)
-    (only : RemovalsAreOf name (Request asked ∷ rest)) where
+    (holds : HoldsAt script v 1 s (Request asked ∷ rest) b) (asks : IsCallOf script asked)
+    (name : Name) (only : RemovalsAreOf name (Request asked ∷ rest)) where
   abbrev w : World
   w = world_after v 1 s
 
-  low : 1 ≤ asked.caller
-  low = let mine = of_nodes.in_hand in mine.0.0
-
-  high : asked.caller ≤ node_count script
-  high = let mine = of_nodes.in_hand in mine.0.1
-
   number : (let n : Node = s.node in n.number ≡ 1)
-  number = leader-number script v s asked rest b holds low high
-
-  own-may-end : (let n : Node = s.node in asked.caller ≡ n.number → MayEnd script n)
-  own-may-end e =
-      let here : asked.caller ≡ 1 = e ∙ number
-      in let it = first script w asked rest b holds low high
-      in let has : HasCall script asked.caller (is_born_in w) (call_sight w (Request asked ∷ rest) b asked.caller)
-      it.call = it.has
-      in let shape : IsShaped script w = holds.shape
-      in let there : HasTryLeft script asked.caller (node_of w asked.caller).caller = has.try_left
-      in let n : Node = s.node
-      in let left : HasTryLeft script n.number n.caller =
-      subst (λ (m : Node). HasTryLeft script n.number m.caller)
-      (leader-in-step script v s (Request asked ∷ rest) b holds)
-      (subst (λ c. HasTryLeft script n.number (node_of w c).caller) here
-      (subst (λ c. HasTryLeft script c (node_of w asked.caller).caller) e there))
-      in record { tries = shape.tries; left = left }
+  number = leader-number script v s asked rest b holds asks
 
   removal-only : (other : Name) → home_of asked.pid asked.call ≡ homes.Removal other → RemovalsAreOf other rest
   removal-only other on =
@@ -140,39 +136,44 @@ module _ (script : Script) (v : World) (s : Step) (asked : Asked) (rest : List H
   route-is-light r =
       let k : RouteKeeps script v s asked rest r.beside = r.keeps
       in let after : Beside = r.beside
-      in let it = first script w asked rest b holds low high
+      in let m : IsMoved b.call after.call asked.caller (IsRoutedBy s asked) = r.moved
+      in let it = first script w asked rest b holds asks
       in let cost = route-lowers script s asked rest number
-      (leading-in-step script v s (Request asked ∷ rest) b holds) own-may-end k.next r.place removal-only r.light
+      (leading-in-step script v s (Request asked ∷ rest) b holds) (may-end script v s (Request asked ∷ rest) b holds)
+      asks.is_call k.next m.place removal-only m.fits
       k.is_route
-      in let less = first-goes script s k.next asked rest b.call r.place low high it.place_is cost
-      in subst (λ c. middle_weight script k.next rest c ≤ middle_weight script s (Request asked ∷ rest) b.call)
-      (sym r.calls) less
+      in let less = first-goes script s k.next asked rest b.call m.place asks.low asks.high it.place_is cost
+      in let fewer = calls-woken script (call_in b.call asked.caller m.place) after.call m.calls
+      in omega (arith, less, fewer)
 
 -- ---- a parcel
 
-module _ (script : Script) (v : World) (s : Step) (parcel : Parcel) (rest : List Held) (b : Beside)
-    (holds : Holds script (world_after v 1 s) (Ending parcel ∷ rest) b)
+module _ (script : Script) (v : World) (s : Step) (parcel : Parcel) (rest : List Held) {owes : Owing} (b : Beside)
+    (holds : HoldsOwing script (world_after v 1 s) (Ending parcel ∷ rest) owes b)
     (of_nodes : IsOfNodes script s (Ending parcel ∷ rest)) where
-  lowers : (after : AfterEnd) → end_process s parcel ≡ Some after
+  lowers : (after : AfterEnd) → end_process script s parcel ≡ Some after
       → EndLowers script b.call parcel
       (first-is-packed script (world_after v 1 s) parcel rest b holds) rest s after
   lowers after is =
-      end-lowers script b.call parcel (first-is-packed script (world_after v 1 s) parcel rest b holds) rest s after
+      end-lowers script b.call parcel (first-is-packed script (world_after v 1 s) parcel rest b holds) rest s
+      (may-end script v s (Ending parcel ∷ rest) b holds) after
       (tended-in-step script v s (Ending parcel ∷ rest) b holds of_nodes) is
 
   -- Where it is held, the step weighs no more.
-  pub held-is-light : (next : Step) (beside : Beside) → end_process s parcel ≡ Some (IsHeld next)
-      → beside.call ≡ b.call
+  pub held-is-light : (next : Step) (beside : Beside) → end_process script s parcel ≡ Some (IsHeld next)
+      → AreStill b.call beside.call
       → middle_weight script next rest beside.call ≤ middle_weight script s (Ending parcel ∷ rest) b.call
-  held-is-light next beside is same =
-      subst (λ c. middle_weight script next rest c ≤ middle_weight script s (Ending parcel ∷ rest) b.call) (sym same)
-      (lowers (IsHeld next) is)
+  held-is-light next beside is still =
+      let low = lowers (IsHeld next) is
+      in let fewer = calls-woken script b.call beside.call still
+      in omega (arith, low, fewer)
 
   -- Nor where it is gone, with what was held for its names in hand.
   pub freed-is-light : (next : Step) (items : List Held) (beside : Beside)
-      → end_process s parcel ≡ Some (Releases next items)
-      → beside.call ≡ (λ p. call_released (names_in parcel) (b.call p))
+      → end_process script s parcel ≡ Some (Releases next items)
+      → AreStill (λ p. call_released (names_in parcel) (b.call p)) beside.call
       → middle_weight script next (items ++ rest) beside.call ≤ middle_weight script s (Ending parcel ∷ rest) b.call
-  freed-is-light next items beside is same =
-      subst (λ c. middle_weight script next (items ++ rest) c ≤ middle_weight script s (Ending parcel ∷ rest) b.call)
-      (sym same) (lowers (Releases next items) is)
+  freed-is-light next items beside is still =
+      let low = lowers (Releases next items) is
+      in let fewer = calls-woken script (λ p. call_released (names_in parcel) (b.call p)) beside.call still
+      in omega (arith, low, fewer)

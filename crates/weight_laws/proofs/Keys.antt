@@ -26,10 +26,11 @@ use Rattle.world_model.specs.Numbers.{Taken, take_number}
 use Rattle.world_model.specs.Step.{Step, carry_out, with_directory, with_node}
 use Rattle.route_laws.proofs.release.RoutedParcels.{directory_in}
 use Rattle.weight_laws.specs.Weights.{node_weight}
-use Rattle.weight_laws.proofs.Costs.{MayEnd, carried-costs, step_weight, table-none}
+use Rattle.weight_laws.proofs.Costs.{MayEndIf, carried-costs, step_weight, table-none, MayEnd}
 use Rattle.weight_laws.proofs.Known.{KnowsMore, carried-knows, knows-after, knows-placed, taken-knows}
-use Rattle.weight_laws.proofs.Made.{TakesNone, number-taken}
+use Rattle.weight_laws.proofs.Made.{TakesNone, number-taken, taken-ends}
 use Rattle.weight_laws.proofs.Parts.{placed-keeps-weight}
+use Rattle.waiting_model.specs.Waiters.{unawaited}
 
 -- a step goes on at no cost, and knows as much
 pub record IsFree (script : Script) (s t : Step) : Type 0 where
@@ -37,7 +38,7 @@ pub record IsFree (script : Script) (s t : Step) : Type 0 where
   pub knows : KnowsMore (directory_in s) (directory_in t)
 
 module _ (script : Script) (s : Step) (asked : Asked) (leads : let n : Node = s.node in is_leader n ≡ true)
-    (may : let n : Node = s.node in asked.caller ≡ n.number → MayEnd script n) where
+    (may : MayEndIf script s.node) where
   abbrev n : Node
   n = s.node
 
@@ -60,8 +61,8 @@ module _ (script : Script) (s : Step) (asked : Asked) (leads : let n : Node = s.
       in let none_before = table-none m leads_still
       in let weighs = same.weighs
       in let cost = carried-costs script placed asked (replies.Num id)
-      (λ e. let there : MayEnd script m = same.may_end (may (e ∙ same.number_is))
-      in record { tries = there.tries; left = there.left })
+      (λ there. let ends : MayEnd script m = taken-ends script n m same may there
+      in record { tries = ends.tries; left = ends.left })
       in record {
         costs = omega (arith, low, none, none_before, weighs, cost, light);
         knows = knows-after n.leader.directory (directory_in placed)
@@ -78,7 +79,7 @@ module _ (script : Script) (s : Step) (asked : Asked) (leads : let n : Node = s.
       let m : Node = taken.node
       in let l : Leader = m.leader
       in subst (IsFree script s) (from_some _ _ h)
-      (bound-free m (Msg taken.number) (AQueue empty_queue) taken.number
+      (bound-free m (Msg taken.number) (AQueue (unawaited empty_queue)) taken.number
       (record l { queue_keys = bind l.queue_keys key taken.number 0 }) (number-taken script n kinds.Msg taken e)
       (taken-knows n kinds.Msg taken e) (omega arith))
 
@@ -89,7 +90,7 @@ module _ (script : Script) (s : Step) (asked : Asked) (leads : let n : Node = s.
       let m : Node = taken.node
       in let l : Leader = m.leader
       in subst (IsFree script s) (from_some _ _ h)
-      (bound-free m (Sem taken.number) (ASet set) taken.number
+      (bound-free m (Sem taken.number) (ASet (unawaited set)) taken.number
       (record l { set_keys = bind l.set_keys key taken.number (length set.semaphores) })
       (number-taken script n kinds.Sem taken e) (taken-knows n kinds.Sem taken e) (omega arith))
 

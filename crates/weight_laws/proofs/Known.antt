@@ -7,17 +7,19 @@ use Rattle.pico_base.specs.declared.reply.Reply.{Reply}
 use Rattle.pico_base.specs.declared.script.Script.{Script}
 use Rattle.rpc_frame.specs.declared.asked.Asked.{Asked}
 use Rattle.rpc_frame.specs.declared.frame.Frame.TheVariants as frames
+use Rattle.waiting_model.specs.declared.callers.Wake.{Wake}
 use Rattle.kernel_laws.proofs.Plain.{from_some, not_some}
 use Rattle.node_model.specs.Bodies.{Body}
 use Rattle.node_model.specs.Directory.{Directory, Place, At, is_known, place_name, stays, upcoming, with_place}
 use Rattle.node_model.specs.Kinds.{for_kind, get_named, put_all, with_kind}
 use Rattle.node_model.specs.Leases.{lease_of}
-use Rattle.node_model.specs.Serving.{Served, has_read, serve}
-use Rattle.node_model.specs.Watches.{moves_to, with_read}
+use Rattle.node_model.specs.Serving.{Served, serve, waiting_as}
+use Rattle.node_model.specs.Entries.{outcome_with}
+use Rattle.node_model.specs.Watches.{last_move, with_reads}
 use Rattle.world_model.specs.Node.{Node, is_leader, under_way_as}
 use Rattle.world_model.specs.Numbers.{Taken, take_first, take_from, take_from_next, take_number, with_next_range}
-use Rattle.world_model.specs.Serving.{grant, grant_held, move_to, note_read, serve_asked, serve_asked_with}
-use Rattle.world_model.specs.Step.{Step, carry_out, enter, reply_here, send, with_deeds, with_node}
+use Rattle.world_model.specs.Serving.{grant, grant_held, has_room, is_struck, move_to, note_reads, serve_asked, serve_asked_with}
+use Rattle.world_model.specs.Step.{Step, carry_out, carry_out_waking, enter, enter_with, reply_at, reply_here, reply_to, send, wake_all, wake_one, with_deeds, with_node, with_strike}
 use Rattle.world_laws.proofs.Named.{name-cases}
 use Rattle.rule_laws.proofs.Places.{place-with-other, place-with-same}
 use Rattle.route_laws.proofs.release.RoutedParcels.{directory_in}
@@ -50,23 +52,45 @@ knows-placed d name node = by-test (is_known d name)
 
 -- ---- a call is carried out
 
+-- the directory stays
+abbrev SameDirectory : Step → Step → Type 0
+SameDirectory s t = directory_in t ≡ directory_in s
+
 here-leader : (script : Script) (s : Step) (reply : Reply) (o : Option Call)
-    → directory_in (reply_here script s reply o) ≡ directory_in s
+    → SameDirectory s (reply_here script s reply o)
 here-leader script s reply None = refl
 here-leader script s reply (Some call) = refl
 
-reply-leader : (script : Script) (s : Step) (asked : Asked) (reply : Reply) (t : Bool)
-    → directory_in (if t then reply_here script s reply (under_way_as s.node asked.ticket)
-    else send s asked.caller (frames.Answer asked.ticket reply)) ≡ directory_in s
-reply-leader script s asked reply true = here-leader script s reply (under_way_as s.node asked.ticket)
-reply-leader script s asked reply false = refl
+reply-leader : (script : Script) (s : Step) (caller ticket : ℕ) (reply : Reply)
+    → SameDirectory s (reply_at script s caller ticket reply)
+reply-leader script s caller ticket reply = let n : Node = s.node in by-test (nat_eq caller n.number)
+  where
+    by-test : (t : Bool)
+        → SameDirectory s (if t then reply_here script s reply (under_way_as s.node ticket)
+        else send s caller (frames.Answer ticket reply))
+    by-test true = here-leader script s reply (under_way_as s.node ticket)
+    by-test false = refl
 
--- the directory is as it was
+wakes-leader : (script : Script) (s : Step) (wakes : List Wake) → SameDirectory s (wake_all script s wakes)
+wakes-leader script s [] = refl
+wakes-leader script s (w ∷ wakes) =
+    wakes-leader script (wake_one script s w) wakes ∙ reply-leader script s w.caller w.ticket w.reply
+
+-- the directory is as it was, whoever is woken
+pub waking-directory : (script : Script) (s : Step) (asked : Asked) (own : Option Reply) (wakes : List Wake)
+    → directory_in (carry_out_waking script s asked own wakes) ≡ directory_in s
+waking-directory script s asked None wakes =
+    wakes-leader script (enter_with s asked.pid asked.call (outcome_with None wakes)) wakes
+waking-directory script s asked (Some reply) wakes =
+    let entered : Step = enter_with s asked.pid asked.call (outcome_with (Some reply) wakes)
+    in wakes-leader script (reply_to script entered asked reply) wakes
+    ∙ reply-leader script entered asked.caller asked.ticket reply
+
+-- so it is where nobody is
 pub carried-directory : (script : Script) (s : Step) (asked : Asked) (reply : Reply)
     → directory_in (carry_out script s asked reply) ≡ directory_in s
 carried-directory script s asked reply =
-    let n : Node = s.node
-    in reply-leader script (enter s asked.pid asked.call reply) asked reply (nat_eq asked.caller n.number)
+    reply-leader script (enter s asked.pid asked.call reply) asked.caller asked.ticket reply
 
 -- so it knows as much
 pub carried-knows : (script : Script) (s : Step) (asked : Asked) (reply : Reply)
@@ -98,29 +122,30 @@ moved-knows : (s : Step) (name : Name) (o : Option ℕ) → KnowsMore (directory
 moved-knows s name None = λ m h. h
 moved-knows s name (Some to) = let n : Node = s.node in move-knows s name to (is_leader n)
 
-read-knows : (s : Step) (name : Name) (reader : ℕ) (t : Bool)
-    → KnowsMore (directory_in s) (directory_in (if t then note_read s name reader else s))
-read-knows s name reader true =
+reads-know : (s : Step) (name : Name) (readers : List ℕ)
+    → KnowsMore (directory_in s) (directory_in (note_reads s name readers))
+reads-know s name readers =
     let n : Node = s.node
-    in moved-knows (with_node s (record n { watches = with_read n.watches n.number name reader })) name
-    (moves_to n.watches n.number name reader)
-read-knows s name reader false = λ m h. h
+    in moved-knows (with_node s (record n { watches = with_reads n.watches n.number name readers })) name
+    (last_move n.watches n.number name readers)
 
 served-with-knows : (script : Script) (s : Step) (name : Name) (asked : Asked) (served : Served)
     → KnowsMore (directory_in s) (directory_in (serve_asked_with script s name asked served))
 served-with-knows script s name asked served =
     let n : Node = s.node
-    in let changed : Step = with_deeds s (put_all n.deeds served.changes)
-    in let done : Step = carry_out script changed asked served.reply
+    in let struck : Step = with_strike s (is_struck n name asked.call)
+    in let changed : Step = with_deeds struck (put_all n.deeds served.changes)
+    in let done : Step = carry_out_waking script changed asked served.own served.wakes
     in knows-after (directory_in s) (directory_in done) (directory_in (serve_asked_with script s name asked served))
-    (carried-knows script changed asked served.reply)
-    (read-knows done name asked.caller (has_read asked.call served.reply))
+    (λ m h. ap (λ (d : Directory). is_known d m)
+    (waking-directory script changed asked served.own served.wakes) ∙ h)
+    (reads-know done name served.readers)
 
 -- A call is served.
 pub served-knows : (script : Script) (s t : Step) (name : Name) (asked : Asked)
     → serve_asked script s name asked ≡ Some t → KnowsMore (directory_in s) (directory_in t)
 served-knows script s t name asked h =
-    let n : Node = s.node in by-served (serve n.deeds asked.pid asked.call) h
+    let n : Node = s.node in by-room (has_room s name asked) (serve n.deeds (waiting_as asked)) h
   where
     by-served : (o : Option Served) → option_map (serve_asked_with script s name asked) o ≡ Some t
         → KnowsMore (directory_in s) (directory_in t)
@@ -128,6 +153,13 @@ served-knows script s t name asked h =
     by-served (Some served) g =
         subst (λ (x : Step). KnowsMore (directory_in s) (directory_in x)) (from_some _ _ g)
         (served-with-knows script s name asked served)
+
+    by-room : (room : Bool) (o : Option Served)
+        → (if room then option_map (serve_asked_with script s name asked) o else Some s) ≡ Some t
+        → KnowsMore (directory_in s) (directory_in t)
+    by-room true o g = by-served o g
+    by-room false o g =
+        subst (λ (x : Step). KnowsMore (directory_in s) (directory_in x)) (from_some s t g) (λ m there. there)
 
 -- ---- a number is taken
 

@@ -2,7 +2,6 @@
 -- afterwards, where the release of the hand makes it no heavier.
 use Rattle.std.proofs.Common.{◌≡◌, ℕ, ◌+◌, ◌≤◌, ◌&&◌, List, [], ◌∷◌, Option, Some, None, option_and_then, arith}
 use Rattle.pico_base.specs.declared.script.Script.{Script}
-use Rattle.pico_base.specs.declared.script.Event.TheVariants as events
 use Rattle.rpc_frame.specs.declared.deed.Parcel.{Parcel}
 use Rattle.rpc_frame.specs.declared.frame.Frame.{Frame}
 use Rattle.rpc_frame.specs.declared.frame.Frame.TheVariants as frames
@@ -21,8 +20,8 @@ use Rattle.world_laws.specs.Invariant.{Holds}
 use Rattle.world_laws.specs.Places.{Beside, CallPlace}
 use Rattle.world_laws.specs.Sights.{node_of}
 use Rattle.world_laws.proofs.Steps.{Heads}
-use Rattle.weight_laws.specs.Weights.{Falls, calls_weight, middle_weight, node_weight}
-use Rattle.weight_laws.proofs.Events.{Lowers, take-falls}
+use Rattle.weight_laws.specs.Weights.{calls_weight, middle_weight, node_weight}
+use Rattle.weight_laws.proofs.Events.{Lowers, TakesLower}
 use Rattle.weight_laws.proofs.Parts.{passed}
 
 module _ (script : Script) (w : World) (b : Beside) (holds : Holds script w [] b) (q : ℕ) (parcel : Parcel)
@@ -60,6 +59,5 @@ module _ (script : Script) (w : World) (b : Beside) (holds : Holds script w [] b
       (option_and_then (end_released script n q parcel) (fitting_bodies n.deeds parcel)) t rule).1
 
   -- So the event lowers the weight.
-  pub left-falls : EndIsLight → Falls script w (events.Take 1 q) b.call call_after
-  left-falls light =
-      take-falls script w 1 q (frames.Left parcel) rest b.call call_after holds.shape h (left-lowers light)
+  pub left-falls : EndIsLight → TakesLower script w 1 q (frames.Left parcel) b.call call_after
+  left-falls light = left-lowers light

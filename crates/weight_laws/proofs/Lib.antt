@@ -15,6 +15,8 @@ pub mod Known
 pub mod Keys
 pub mod Hand
 pub mod Routes
+pub mod CancelRoutes
+pub mod Cancels
 pub mod Starts
 pub mod RunFalls
 pub mod RouteFalls

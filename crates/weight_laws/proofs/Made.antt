@@ -1,5 +1,5 @@
 -- What it costs to make a process, a queue or a set: at most 2.
-use Rattle.std.proofs.Common.{◌≡◌, ℕ, ◌+◌, ◌≤◌, Bool, true, false, if◌then◌else◌, List, [], ◌∷◌, Option, Some, None, option_map, option_and_then, Result, Ok, Err, refl, subst, arith}
+use Rattle.std.proofs.Common.{◌≡◌, ℕ, ◌+◌, ◌≤◌, Bool, true, false, if◌then◌else◌, List, [], ◌∷◌, Option, Some, None, option_map, option_and_then, Result, Ok, Err, refl, subst, arith, sym, ap, is_some, ◌∙◌}
 use Rattle.pico_base.specs.declared.call.Call.{Call}
 use Rattle.pico_base.specs.declared.call.Call.TheVariants as calls
 use Rattle.pico_base.specs.declared.numbers.Kind.{Kind}
@@ -15,7 +15,7 @@ use Rattle.kernel_model.specs.Row.{Row}
 use Rattle.kernel_model.specs.SemaphoreSet.{SemaphoreSet, new_set}
 use Rattle.kernel_laws.proofs.Plain.{from_some, not_some}
 use Rattle.node_model.specs.Bodies.{ASet, AQueue, Body}
-use Rattle.node_model.specs.Caller.{caller_place}
+use Rattle.node_model.specs.Caller.{caller_place, Caller}
 use Rattle.node_model.specs.Directory.{place_name, upcoming}
 use Rattle.node_model.specs.Kinds.{for_kind, put_named, with_kind}
 use Rattle.node_model.specs.Leases.{lease_of}
@@ -25,9 +25,10 @@ use Rattle.world_model.specs.Node.{Node, asked_here, is_leader, own_row}
 use Rattle.world_model.specs.Numbers.{Taken, fork_with, make, make_object, make_set, make_taken, make_with, take_first, take_from, take_from_next, take_number, tell_place, with_next_range}
 use Rattle.world_model.specs.Step.{Step, carry_out, send, with_deeds, with_directory, with_node}
 use Rattle.weight_laws.specs.Weights.{node_weight}
-use Rattle.weight_laws.proofs.Costs.{MayEnd, carried-costs, step_weight}
+use Rattle.weight_laws.proofs.Costs.{MayEnd, MayEndIf, carried-costs, step_weight}
 use Rattle.weight_laws.proofs.Parts.{passed, placed-keeps-weight, size-put, table-adds}
 use Rattle.weight_laws.proofs.Sums.{sends-push}
+use Rattle.waiting_model.specs.Waiters.{unawaited}
 
 -- ---- a number is taken
 
@@ -36,6 +37,12 @@ pub record TakesNone (script : Script) (n m : Node) : Type 0 where
   pub weighs : node_weight script m ≤ node_weight script n
   pub number_is : m.number ≡ n.number
   pub may_end : MayEnd script n → MayEnd script m
+  pub caller_is : m.caller ≡ n.caller
+
+-- its call under way, if there is one, may be answered
+pub taken-ends : (script : Script) (n m : Node) → TakesNone script n m → MayEndIf script n → MayEndIf script m
+taken-ends script n m t may there =
+    t.may_end (may (ap (λ (c : Caller). is_some c.under_way) (sym t.caller_is) ∙ there))
 
 abbrev TakenFrom : Script → Node → Taken → Type 0
 TakenFrom script n t = TakesNone script n t.node
@@ -54,14 +61,20 @@ module _ (script : Script) (n : Node) (kind : Kind) where
         number_is = same.number_is;
         may_end = λ may. let there : MayEnd script m = same.may_end may
             in record { tries = there.tries; left = there.left };
+        caller_is = same.caller_is;
       })
 
   itself : TakesNone script n n
-  itself = record { weighs = omega arith; number_is = refl; may_end = λ may. may }
+  itself = record { weighs = omega arith; number_is = refl; may_end = λ may. may; caller_is = refl }
 
   refilled : TakesNone script n (with_next_range n kind)
   refilled =
-      record { weighs = omega arith; number_is = refl; may_end = λ may. record { tries = may.tries; left = may.left } }
+      record {
+        weighs = omega arith;
+        number_is = refl;
+        may_end = λ may. record { tries = may.tries; left = may.left };
+        caller_is = refl;
+      }
 
   next-taken : (t : Taken) (numbers : List ℕ) → take_from n kind numbers ≡ Some t → TakenFrom script n t
   next-taken t (number ∷ numbers) h = first-taken n t (number ∷ numbers) itself h
@@ -99,7 +112,7 @@ module _ (script : Script) (s : Step) (call : Call) (may : let n : Node = s.node
       in let done : Step = carry_out script held (asked_here n call) (replies.Num child)
       in let carried : step_weight script done ≤ step_weight script held =
       carried-costs script held (asked_here n call) (replies.Num child)
-      (λ e. record { tries = may.tries; left = may.left })
+      (λ there. record { tries = may.tries; left = may.left })
       in let birth = frames.Checkpoint child n.pid (pack (Proc child) (child_body row))
       (child_vars (caller_place script n.number n.caller))
       in let one = sends-push done.sends (block, birth)
@@ -116,7 +129,7 @@ module _ (script : Script) (s : Step) (call : Call) (may : let n : Node = s.node
       in let done : Step = carry_out script held (asked_here n call) (replies.Num number)
       in let carried : step_weight script done ≤ step_weight script held =
       carried-costs script held (asked_here n call) (replies.Num number)
-      (λ e. record { tries = may.tries; left = may.left })
+      (λ there. record { tries = may.tries; left = may.left })
       in let told = tell-costs script done name n.number
       in omega (arith, carried, more, told)
 
@@ -126,7 +139,8 @@ module _ (script : Script) (s : Step) (call : Call) (may : let n : Node = s.node
   set-costs : (number : ℕ) (t : Step) (o : Result SemaphoreSet Errno) → make_set script s call number o ≡ Some t
       → cheap t
   set-costs number t (Err e) h = not_some t h
-  set-costs number t (Ok set) h = subst cheap (from_some _ _ h) (object-costs (Sem number) (ASet set) number)
+  set-costs number t (Ok set) h =
+      subst cheap (from_some _ _ h) (object-costs (Sem number) (ASet (unawaited set)) number)
 
   forked-costs : (block child : ℕ) (t : Step) (o : Option Row)
       → option_map (fork_with script s call block child) o ≡ Some t → cheap t
@@ -139,7 +153,7 @@ made-with script s t (calls.Fork block) number may h =
     let n : Node = s.node in forked-costs script s (calls.Fork block) may block number t (own_row n) h
 made-with script s t (calls.MsgGet key create excl) number may h =
     subst (λ (x : Step). step_weight script x ≤ step_weight script s + 2) (from_some _ _ h)
-    (object-costs script s (calls.MsgGet key create excl) may (Msg number) (AQueue empty_queue) number)
+    (object-costs script s (calls.MsgGet key create excl) may (Msg number) (AQueue (unawaited empty_queue)) number)
 made-with script s t (calls.SemGet key count create excl) number may h =
     set-costs script s (calls.SemGet key count create excl) may number t (new_set count) h
 made-with script s t call number may h = not_some t h

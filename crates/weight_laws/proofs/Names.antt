@@ -1,5 +1,6 @@
 -- The rules of names that move, and of how a node's life begins and ends: no call moves, and the weight falls.
 use Rattle.std.proofs.Common.{◌≡◌, ℕ, ◌+◌, Bool, true, false, ◌&&◌, if◌then◌else◌, List, [], ◌∷◌, ◌++◌, length, map, fold, Option, Some, None, option_map, option_and_then, refl, ap, subst, arith}
+use Rattle.std.specs.Prelude.{sum_by}
 use Rattle.std.proofs.lemmas.Bool.{false≢true}
 use Rattle.std.proofs.lemmas.List.{length-append}
 use Rattle.std.proofs.lemmas.List.Sums.{sum_by-cons, sum_by-append}
@@ -24,10 +25,10 @@ use Rattle.world_model.specs.Step.{Step, step_to, send, with_directory}
 use Rattle.world_model.specs.Serving.{without_deed}
 use Rattle.world_model.specs.Routes.{recall_from}
 use Rattle.world_model.specs.Ranges.{take_placed}
-use Rattle.world_model.specs.Moves.{take_suggest, take_recall, take_grant, is_at, give_back, keep, receive_deed}
+use Rattle.world_model.specs.Moves.{take_suggest, take_recall, take_grant, is_at, give_back, has_nodes, keep, receive_deed}
 use Rattle.world_model.specs.Lives.{take_checkpoint, take_leaving, take_recall_all, born_with, be_born, hand_over, send_to_leader, place_family}
 use Rattle.world_laws.specs.Places.{CallPlace}
-use Rattle.weight_laws.specs.Weights.{frame_weight, stream_weight, sends_weight, node_weight, to_start, to_start_in}
+use Rattle.weight_laws.specs.Weights.{send_weight, sends_weight, node_weight, to_start, to_start_in}
 use Rattle.weight_laws.proofs.Sums.{sends-push}
 use Rattle.weight_laws.proofs.Events.{Lowers, lowers-still}
 use Rattle.weight_laws.proofs.Parts.{no-table, passed, and-left, and-right, not-true, size_of, size-put, size-without, table-adds, table-counts, place-adds, placed-keeps-weight, leaving-keeps-weight}
@@ -84,15 +85,17 @@ module _ (script : Script) (n : Node) (call : ℕ → CallPlace) where
 
   -- ---- Grant
 
-  grant-by : (name : Name) (s : Step) (o : Option Body) → option_map (receive_deed n name) o ≡ Some s
+  grant-by : (name : Name) (s : Step) (o : Option Body) → option_and_then (receive_deed script n name) o ≡ Some s
       → LowersAlone 2 s
   grant-by name s None h = not_some s h
   grant-by name s (Some body) h =
       let more = table-adds n (keep n name body) 1 refl (size-put n.deeds name body)
-      in subst (LowersAlone 2) (from_some _ _ h)
-      (lowers-still script n 2 call (receive_deed n name body) (omega (arith, more)))
+      in subst (LowersAlone 2)
+      (from_some _ _ (passed (has_nodes script body) (Some (step_to (keep n name body))) s h).1)
+      (lowers-still script n 2 call (step_to (keep n name body)) (omega (arith, more)))
 
-  pub grant-lowers : (from : ℕ) (packed : PackedDeed) (s : Step) → take_grant n from packed ≡ Some s → LowersAlone 2 s
+  pub grant-lowers : (from : ℕ) (packed : PackedDeed) (s : Step) → take_grant script n from packed ≡ Some s
+      → LowersAlone 2 s
   grant-lowers from packed s h = grant-by packed.name s (read_deed packed) (passed _ _ s h).1
 
   -- ---- Checkpoint
@@ -152,30 +155,32 @@ module _ (script : Script) (n : Node) (call : ℕ → CallPlace) where
 
   handed : (fs : List Frame) (s : Step)
       → let t : Step = fold send_to_leader s fs
-      in (sends_weight t.sends ≡ sends_weight s.sends + stream_weight fs) × (t.node ≡ s.node)
+      in (sends_weight t.sends ≡ sends_weight s.sends + sum_by (λ f. send_weight (1, f)) fs) × (t.node ≡ s.node)
   handed [] s = (omega arith, refl)
   handed (f ∷ fs) s =
       let rest = handed fs (send_to_leader s f)
       in let first = sends-push s.sends (1, f)
-      in let all = sum_by-cons frame_weight f fs
+      in let all = sum_by-cons (λ g. send_weight (1, g)) f fs
       in (omega (arith, rest.0, first, all), rest.1)
 
-  gives-back : (deeds : List PackedDeed) → stream_weight (map parcels.give_back deeds) ≡ length deeds
+  gives-back : (deeds : List PackedDeed)
+      → sum_by (λ f. send_weight (1, f)) (map parcels.give_back deeds) ≡ length deeds
   gives-back [] = refl
   gives-back (deed ∷ deeds) =
       let rest = gives-back deeds
-      in let one = sum_by-cons frame_weight (parcels.give_back deed) (map parcels.give_back deeds)
+      in let one = sum_by-cons (λ f. send_weight (1, f)) (parcels.give_back deed) (map parcels.give_back deeds)
       in omega (arith, rest, one)
 
   length-packed : (name : ℕ → Name) (bodies : Numbered Body) → length (pack_all name bodies) ≡ length bodies
   length-packed name [] = refl
   length-packed name (e ∷ bodies) = let rest = length-packed name bodies in omega (arith, rest)
 
-  gives-all : (pid parent : ℕ) (ends : Call) → stream_weight (give_all n.deeds pid parent ends) ≡ size_of n.deeds + 2
+  gives-all : (pid parent : ℕ) (ends : Call)
+      → sum_by (λ f. send_weight (1, f)) (give_all n.deeds pid parent ends) ≡ size_of n.deeds + 2
   gives-all pid parent ends =
       let queues : List PackedDeed = pack_all Msg n.deeds.queues
       in let sets : List PackedDeed = pack_all Sem n.deeds.sets
-      in let all = sum_by-append frame_weight (map parcels.give_back (queues ++ sets))
+      in let all = sum_by-append (λ f. send_weight (1, f)) (map parcels.give_back (queues ++ sets))
       (frames.Left (parcel_of n.deeds pid parent ends) ∷ [])
       in let back = gives-back (queues ++ sets)
       in let both = length-append queues sets

@@ -25,12 +25,13 @@ use Rattle.world_model.specs.Serving.{serve_asked, serve_nobody}
 use Rattle.world_model.specs.World.{node_count}
 use Rattle.world_laws.specs.Places.{CallPlace, call_in}
 use Rattle.rule_laws.proofs.own.Moved.{IsNotServed}
-use Rattle.weight_laws.specs.Weights.{call_weight, left_to_start, node_weight}
-use Rattle.weight_laws.proofs.Costs.{MayEnd, RisesBesides, move_cost, nobody-costs, served-costs, stage-below, step_weight, under-way-at}
+use Rattle.weight_laws.specs.Weights.{call_weight, left_to_start, node_weight, strike_weight}
+use Rattle.weight_laws.proofs.Costs.{MayEnd, RisesBesides, nobody-costs, served-costs, stage-below, step_weight, under-way-at, MayEndIf, answered-quiet, read_cost}
 use Rattle.weight_laws.proofs.Events.{Lowers, lowers-moved}
 use Rattle.weight_laws.proofs.Lines.{answer-below}
 use Rattle.weight_laws.proofs.Made.{made-costs}
 use Rattle.weight_laws.proofs.Parts.{passed}
+use Rattle.route_laws.proofs.Owed.{nobody_reads}
 
 -- a step that costs so much, and a call that goes from a place to another
 pub lowers-by-cost : (script : Script) (n : Node) (s : Step) (taken more : ℕ) (call : ℕ → CallPlace) (p : ℕ)
@@ -40,10 +41,11 @@ pub lowers-by-cost : (script : Script) (n : Node) (s : Step) (taken more : ℕ) 
 lowers-by-cost script n s taken more call p was place low high is cost less =
     lowers-moved script n taken call p was place s low high is (omega (arith, cost, less))
 
--- a name that moves costs 5 at most
-pub move-is-cheap : (leads : Bool) → move_cost leads ≤ 5
-move-is-cheap true = omega arith
-move-is-cheap false = omega arith
+-- a name that moves to who reads it costs 5 at most
+pub read-is-cheap : (nobody leads : Bool) → read_cost nobody leads ≤ 5
+read-is-cheap true leads = omega arith
+read-is-cheap false true = omega arith
+read-is-cheap false false = omega arith
 
 module _ (script : Script) (n : Node) where
   -- a step from this node that costs so much
@@ -69,16 +71,18 @@ module _ (script : Script) (n : Node) where
   -- ---- Answer
 
   ended-costs : (home : Home) (from : ℕ) (c : Caller)
-      → left_to_start script n.number c ≤ left_to_start script n.number n.caller
+      → left_to_start script n.number c ≤ left_to_start script n.number n.caller → strike_weight c ≡ 0
       → CostsAtMost 0 (step_to (record (with_learnt n from home) { caller = c }))
-  ended-costs (homes.At name) from c h =
-      let start = stage-below script n.number n.caller c n.stage h in omega (arith, start)
-  ended-costs (homes.Removal name) from c h =
-      let start = stage-below script n.number n.caller c n.stage h in omega (arith, start)
-  ended-costs homes.Own from c h = let start = stage-below script n.number n.caller c n.stage h in omega (arith, start)
-  ended-costs homes.Keys from c h = let start = stage-below script n.number n.caller c n.stage h in omega (arith, start)
-  ended-costs homes.Parent from c h =
-      let start = stage-below script n.number n.caller c n.stage h in omega (arith, start)
+  ended-costs (homes.At name) from c h quiet =
+      let start = stage-below script n.number n.caller c n.stage h in omega (arith, start, quiet)
+  ended-costs (homes.Removal name) from c h quiet =
+      let start = stage-below script n.number n.caller c n.stage h in omega (arith, start, quiet)
+  ended-costs homes.Own from c h quiet =
+      let start = stage-below script n.number n.caller c n.stage h in omega (arith, start, quiet)
+  ended-costs homes.Keys from c h quiet =
+      let start = stage-below script n.number n.caller c n.stage h in omega (arith, start, quiet)
+  ended-costs homes.Parent from c h quiet =
+      let start = stage-below script n.number n.caller c n.stage h in omega (arith, start, quiet)
 
   answer-by : (from ticket : ℕ) (reply : Reply) (s : Step) (o : Option Call) → under_way_as n ticket ≡ o
       → MayEnd script n → option_and_then (answered_by script n from reply) o ≡ Some s → CostsAtMost 0 s
@@ -90,6 +94,7 @@ module _ (script : Script) (n : Node) where
       in let m : Step = step_to (end_with_reply script n from call reply)
       in let cost : CostsAtMost 0 m =
       ended-costs (home_of n.pid call) from (answer_call script n.number n.caller call reply) below
+      (answered-quiet script n.number n.caller call reply)
       in subst (CostsAtMost 0) (from_some m s (passed _ _ s h).1) cost
 
   pub answer-costs : (from ticket : ℕ) (reply : Reply) (s : Step) → MayEnd script n
@@ -98,12 +103,14 @@ module _ (script : Script) (n : Node) where
 
   -- ---- calls that are served
 
-  module _ (asked : Asked) (may : asked.caller ≡ n.number → MayEnd script n) (rises : RisesBesides n) where
-    serve-costs : (name : Name) (s : Step) → serve_asked script (step_to n) name asked ≡ Some s → CostsAtMost 5 s
+  module _ (asked : Asked) (may : MayEndIf script n) (rises : RisesBesides n) where
+    -- what serving the call may cost
+    abbrev most : ℕ
+    most = read_cost (nobody_reads n asked) (is_leader n)
+
+    serve-costs : (name : Name) (s : Step) → serve_asked script (step_to n) name asked ≡ Some s → CostsAtMost most s
     serve-costs name s h =
-        let cost = served-costs script (step_to n) s name asked may rises h
-        in let cheap = move-is-cheap (is_leader n)
-        in omega (arith, cost, cheap)
+        let cost = served-costs script (step_to n) s name asked may rises h in omega (arith, cost)
 
     nothing-costs : (name : Name) → CostsAtMost 0 (serve_nobody script (step_to n) name asked)
     nothing-costs name =
@@ -117,7 +124,7 @@ module _ (script : Script) (n : Node) where
         either 0 (leases_hold n.leases name) (serve_nobody script (step_to n) name asked) (bounce n asked)
         (nothing-costs name) bounce-costs
 
-    more-is-fine : (s : Step) → CostsAtMost 0 s → CostsAtMost 5 s
+    more-is-fine : (s : Step) → CostsAtMost 0 s → CostsAtMost most s
     more-is-fine s h = omega (arith, h)
 
     -- ---- Forward
@@ -125,10 +132,10 @@ module _ (script : Script) (n : Node) where
     forward-at : (name : Name) (s : Step) (t : Bool)
         → (if t then serve_asked script (step_to n) name asked
         else Some (bounce_or_nobody script n asked name)) ≡ Some s
-        → CostsAtMost 5 s
+        → CostsAtMost most s
     forward-at name s true h = serve-costs name s h
     forward-at name s false h =
-        subst (CostsAtMost 5) (from_some _ _ h)
+        subst (CostsAtMost most) (from_some _ _ h)
         (more-is-fine (bounce_or_nobody script n asked name) (unserved-costs name))
 
     forward-removal : (name : Name) (s : Step) (t : Bool)
@@ -137,7 +144,7 @@ module _ (script : Script) (n : Node) where
     forward-removal name s true h = subst (CostsAtMost 0) (from_some _ _ h) bounce-costs
     forward-removal name s false h = subst (CostsAtMost 0) (from_some _ _ h) (unserved-costs name)
 
-    forward-home : (s : Step) (home : Home) → forwarded_by script n asked home ≡ Some s → CostsAtMost 5 s
+    forward-home : (s : Step) (home : Home) → forwarded_by script n asked home ≡ Some s → CostsAtMost most s
     forward-home s (homes.At name) h = forward-at name s (holds n name) h
     forward-home s (homes.Removal name) h = more-is-fine s (forward-removal name s (holds n name) h)
     forward-home s homes.Own h = not_some s h
@@ -145,7 +152,7 @@ module _ (script : Script) (n : Node) where
     forward-home s homes.Parent h = not_some s h
 
     -- in whatever way it ends
-    pub forward-costs : (from : ℕ) (s : Step) → take_forward script n from asked ≡ Some s → CostsAtMost 5 s
+    pub forward-costs : (from : ℕ) (s : Step) → take_forward script n from asked ≡ Some s → CostsAtMost most s
     forward-costs from s h = forward-home s (home_of asked.pid asked.call) (passed _ _ s h).1
 
     unserved-home : (s : Step) (home : Home) → IsNotServed n home → forwarded_by script n asked home ≡ Some s
@@ -170,13 +177,13 @@ module _ (script : Script) (n : Node) where
     refusal = send (step_to n) asked.caller (frames.NotOwner asked.ticket)
 
     request-at : (name : Name) (s : Step) (t : Bool)
-        → (if t then serve_asked script (step_to n) name asked else Some refusal) ≡ Some s → CostsAtMost 5 s
+        → (if t then serve_asked script (step_to n) name asked else Some refusal) ≡ Some s → CostsAtMost most s
     request-at name s true h = serve-costs name s h
     request-at name s false h =
         let cost : CostsAtMost 0 refusal = omega arith
-        in subst (CostsAtMost 5) (from_some refusal s h) (more-is-fine refusal cost)
+        in subst (CostsAtMost most) (from_some refusal s h) (more-is-fine refusal cost)
 
-    request-home : (s : Step) (home : Home) → requested_by script n asked home ≡ Some s → CostsAtMost 5 s
+    request-home : (s : Step) (home : Home) → requested_by script n asked home ≡ Some s → CostsAtMost most s
     request-home s (homes.At name) h = request-at name s (holds n name) h
     request-home s (homes.Removal name) h = not_some s h
     request-home s homes.Own h = not_some s h
@@ -195,19 +202,21 @@ module _ (script : Script) (n : Node) where
     refused-home s homes.Parent lacks h = not_some s h
 
   -- a Request in whatever way it ends
-  pub request-costs : (from ticket pid : ℕ) (call : Call) (s : Step) → from ≢ n.number → RisesBesides n
+  pub request-costs : (from ticket pid : ℕ) (call : Call) (s : Step) → MayEndIf script n → RisesBesides n
       → take_request script n from ticket pid call ≡ Some s → CostsAtMost 5 s
-  request-costs from ticket pid call s other rises h =
-      request-home (record { caller = from; ticket = ticket; pid = pid; call = call }) (λ e. absurd (other e)) rises s
-      (home_of pid call) (passed _ _ s h).1
+  request-costs from ticket pid call s may rises h =
+      let asked : Asked = record { caller = from; ticket = ticket; pid = pid; call = call }
+      in let cost = request-home asked may rises s (home_of pid call) (passed _ _ s h).1
+      in let cheap = read-is-cheap (nobody_reads n asked) (is_leader n)
+      in omega (arith, cost, cheap)
 
   -- and one that is refused
-  pub refused-costs : (from ticket pid : ℕ) (call : Call) (s : Step) (other : from ≢ n.number) (rises : RisesBesides n)
+  pub refused-costs : (from ticket pid : ℕ) (call : Call) (s : Step) → MayEndIf script n → RisesBesides n
       → IsNotServed n (home_of pid call)
       → take_request script n from ticket pid call ≡ Some s → CostsAtMost 0 s
-  refused-costs from ticket pid call s other rises lacks h =
-      refused-home (record { caller = from; ticket = ticket; pid = pid; call = call }) (λ e. absurd (other e)) rises s
-      (home_of pid call) lacks (passed _ _ s h).1
+  refused-costs from ticket pid call s may rises lacks h =
+      refused-home (record { caller = from; ticket = ticket; pid = pid; call = call }) may rises s (home_of pid call)
+      lacks (passed _ _ s h).1
 
   -- ---- NotOwner
 

@@ -8,9 +8,9 @@ use Rattle.pico_base.specs.declared.script.Event.TheVariants as events
 use Rattle.pico_base.specs.Home.{home_of}
 use Rattle.kernel_model.specs.Numbers.{is_u32}
 use Rattle.kernel_model.specs.Row.{Row}
-use Rattle.kernel_model.specs.Waiting.{is_waiting}
 use Rattle.kernel_laws.proofs.Plain.{not_some}
-use Rattle.node_model.specs.Caller.{caller_place, due_call, lines_of, start_call}
+use Rattle.waiting_model.specs.Calls.{is_withdrawal}
+use Rattle.node_model.specs.Caller.{Caller, caller_place, due_call, lines_of, start_call, to_cancel}
 use Rattle.world_model.specs.Node.{Node, Stage, Living, Unborn, Leaving, Left, Over, can_run, is_leader, is_living, own_row}
 use Rattle.world_model.specs.Starting.{run, start, start_by, start_due}
 use Rattle.world_model.specs.Step.{Step, step_to}
@@ -18,10 +18,10 @@ use Rattle.world_model.specs.World.{World, node_count}
 use Rattle.world_laws.specs.Callers.{CallHolds, CallSight, FreeIn, HasCallOrNone, HasNoCall, HasTryLeft, IsFree, call_sight}
 use Rattle.world_laws.specs.Families.{NodeHolds, PidsHold}
 use Rattle.world_laws.specs.Invariant.{Holds, IsLeading, IsShaped}
-use Rattle.world_laws.specs.Places.{Beside, CallPlace, Idle, InAnswer, InAsk, InBounce, InNotOwner, InRequest, IsHeld, IsInHand, SentByPlace, SentByRange, AsksLease, HasLease, Ends, call_in}
+use Rattle.world_laws.specs.Places.{Beside, CallPlace, Idle, InAnswer, InAsk, InBounce, InNotOwner, InRequest, IsHeld, IsInHand, Parked, Waits, SentByPlace, SentByRange, AsksLease, HasLease, Ends, call_in}
 use Rattle.world_laws.specs.Sights.{is_born_in, node_of}
 use Rattle.world_laws.proofs.Lines.{past-end}
-use Rattle.weight_laws.specs.Weights.{Falls, call_weight, left_to_start, node_weight, to_start, to_start_in}
+use Rattle.weight_laws.specs.Weights.{Falls, call_weight, left_to_start, node_weight, strike_weight, to_start, to_start_in}
 use Rattle.weight_laws.proofs.Costs.{MayEnd, RisesBesides, step_weight}
 use Rattle.weight_laws.proofs.Events.{Lowers, lowers-moved, lowers-still, run-falls}
 use Rattle.weight_laws.proofs.Lines.{start-below}
@@ -41,6 +41,8 @@ place-low (SentByRange to) = omega arith
 place-low (InBounce sender) = omega arith
 place-low (IsHeld name) = omega arith
 place-low IsInHand = omega arith
+place-low Parked = omega arith
+place-low (Waits name) = omega arith
 place-low (InAnswer sender reply) = omega arith
 place-low Ends = omega arith
 
@@ -60,9 +62,17 @@ idle (Some call) h = absurd (false≢true h)
 abbrev started : Node → Call → Node
 started n call = record n { caller = start_call n.caller call }
 
+-- a signal that interrupts it costs 4 at most
+strike-low : (c : Caller) → strike_weight c ≤ 4
+strike-low c = by-test (is_some (to_cancel c))
+  where
+    by-test : (t : Bool) → (if t then 4 else 0) ≤ 4
+    by-test true = omega arith
+    by-test false = omega arith
+
 module _ (script : Script) (n : Node) (living : n.stage ≡ Living) (free : n.caller.under_way ≡ None) (line : Line)
     (at : slice_get (lines_of script n.number) n.caller.line ≡ Some line) (may : MayStart script n) where
-  lighter : (call : Call) → node_weight script (started n call) + 32 ≤ node_weight script n
+  lighter : (call : Call) → node_weight script (started n call) + 28 ≤ node_weight script n
   lighter call =
       let there : MayEnd script n = may.may_end
       in let below = start-below script n.number n.caller call line free at there.left
@@ -70,7 +80,8 @@ module _ (script : Script) (n : Node) (living : n.stage ≡ Living) (free : n.ca
       ap (to_start_in script n.number n.caller) living
       in let now : to_start script (started n call) ≡ left_to_start script n.number (start_call n.caller call) =
       ap (to_start_in script n.number (start_call n.caller call)) living
-      in omega (arith, below, was, now)
+      in let strike = strike-low (start_call n.caller call)
+      in omega (arith, below, was, now, strike)
 
   may-still : (call : Call) → MayStart script (started n call)
   may-still call =
@@ -78,25 +89,25 @@ module _ (script : Script) (n : Node) (living : n.stage ≡ Living) (free : n.ca
       in record { may_end = record { tries = there.tries; left = there.left }; rises = may.rises; leads = may.leads }
 
   start-lowers : (row : Row) (call : Call) (s : Step) → start script n row call ≡ Some s
-      → step_weight script s + 22 ≤ node_weight script n
-  start-lowers row call s h = by-test (is_waiting call) h
+      → step_weight script s + 18 ≤ node_weight script n
+  start-lowers row call s h = by-test (is_withdrawal call) refl h
     where
-      by-test : (t : Bool) → (if t then None
+      by-test : (t : Bool) → is_withdrawal call ≡ t → (if t then None
           else start_by script (step_to (started n call)) call row (home_of n.pid call)) ≡ Some s
-          → step_weight script s + 22 ≤ node_weight script n
-      by-test true g = not_some s g
-      by-test false g =
+          → step_weight script s + 18 ≤ node_weight script n
+      by-test true e g = not_some s g
+      by-test false e g =
           let light = lighter call
-          in let cost = start-costs script (started n call) (may-still call) call row (home_of n.pid call) s g
+          in let cost = start-costs script (started n call) (may-still call) call e row (home_of n.pid call) s g
           in omega (arith, light, cost)
 
   due-lowers : (row : Row) (s : Step) (o : Option Call) → option_and_then (start script n row) o ≡ Some s
-      → step_weight script s + 22 ≤ node_weight script n
+      → step_weight script s + 18 ≤ node_weight script n
   due-lowers row s None h = not_some s h
   due-lowers row s (Some call) h = start-lowers row call s h
 
   row-lowers : (s : Step) (o : Option Row) → option_and_then (start_due script n) o ≡ Some s
-      → step_weight script s + 22 ≤ node_weight script n
+      → step_weight script s + 18 ≤ node_weight script n
   row-lowers s None h = not_some s h
   row-lowers s (Some row) h = due-lowers row s (due_call script n.number n.caller row.signals.doom) h
 
@@ -144,7 +155,7 @@ module _ (script : Script) (w : World) (b : Beside) (holds : Holds script w [] b
 
   -- what starting a call costs leaves this much
   start-leaves : (s : Step) → run script n ≡ Some s
-      → (step_weight script s + 22 ≤ node_weight script n) × (b.call p ≡ Idle)
+      → (step_weight script s + 18 ≤ node_weight script n) × (b.call p ≡ Idle)
   start-leaves s rule =
       let test = passed (can_run n && is_u32 (n.caller.ticket + 1)) (option_and_then (start_due script n) (own_row n))
       s rule
@@ -169,7 +180,7 @@ module _ (script : Script) (w : World) (b : Beside) (holds : Holds script w [] b
       → Lowers script n 0 b.call (call_in b.call p place) s
   starts-lower place s rule =
       let leaves = start-leaves s rule
-      in let cost : step_weight script s + 22 ≤ node_weight script n = leaves.0
+      in let cost : step_weight script s + 18 ≤ node_weight script n = leaves.0
       in let light = place-low place
       in lowers-moved script n 0 b.call p Idle place s low high leaves.1 (omega (arith, cost, light))
 
@@ -181,7 +192,7 @@ module _ (script : Script) (w : World) (b : Beside) (holds : Holds script w [] b
   alone-lowers : (s : Step) → run script n ≡ Some s → Lowers script n 0 b.call b.call s
   alone-lowers s rule =
       let leaves = start-leaves s rule
-      in let cost : step_weight script s + 22 ≤ node_weight script n = leaves.0
+      in let cost : step_weight script s + 18 ≤ node_weight script n = leaves.0
       in lowers-still script n 0 b.call s (omega (arith, cost))
 
   -- One that is over at once.

@@ -14,7 +14,7 @@ use Rattle.world_model.specs.Node.{Node, first_node, opening_node, unborn_node}
 use Rattle.world_model.specs.Run.{Runs}
 use Rattle.world_model.specs.World.{World, node_count, numbers, opening_world}
 use Rattle.world_laws.specs.Places.{Beside, CallPlace, Idle}
-use Rattle.weight_laws.specs.Weights.{call_at, call_weight, calls_of, node_weight, row_weight, stream_weight, streams_weight, weight}
+use Rattle.weight_laws.specs.Weights.{call_at, call_weight, calls_of, node_weight, row_weight, stream_weight, streams_weight, weight, cancel_weight, cancels_to, cancels_weight}
 use Rattle.weight_laws.proofs.Parts.{no-table}
 use Rattle.weight_laws.specs.Runs.{EachGoesOn, GoesOn, RunsAreShort}
 
@@ -79,6 +79,18 @@ no-streams (suc count) m =
     in let x = sum_by-cons row_weight (replicate m []) (replicate count (replicate m []))
     in omega (arith, rest, here, x)
 
+no-cancels-to : (to count : ℕ) → cancels_to to (replicate count []) ≡ 0
+no-cancels-to to zero = refl
+no-cancels-to to (suc count) =
+    let rest = no-cancels-to to count
+    in let x = sum_by-cons (λ there. sum_by (cancel_weight to) there) [] (replicate count [])
+    in omega (arith, rest, x)
+
+no-cancels : (to count m : ℕ) → cancels_weight to (replicate count (replicate m [])) ≡ 0
+no-cancels to zero m = refl
+no-cancels to (suc count) m =
+    let rest = no-cancels (to + 1) count m in let here = no-cancels-to to m in omega (arith, rest, here)
+
 no-calls : (call : ℕ → CallPlace) → ((p : ℕ) → call p ≡ Idle) → (first count : ℕ)
     → sum_by (call_at call) (numbers first count) ≡ 0
 no-calls call idle first zero = refl
@@ -94,8 +106,9 @@ pub opening-weight : (script : Script) (call : ℕ → CallPlace) → ((p : ℕ)
 opening-weight script call idle =
     let nodes = numbered-sum script script.blocks 1 (block-weight script)
     in let streams = no-streams (node_count script) (node_count script)
+    in let cancels = no-cancels 1 (node_count script) (node_count script)
     in let calls = no-calls call idle 1 (node_count script)
-    in omega (arith, nodes, streams, calls)
+    in omega (arith, nodes, streams, cancels, calls)
 
 -- ---- a run
 

@@ -26,7 +26,7 @@ use Rattle.node_model.specs.Directory.{Directory, Place, At, Coming, is_known, p
 use Rattle.node_model.specs.Kinds.{for_kind, is_object, put_all, put_named}
 use Rattle.node_model.specs.Leases.{is_used_up}
 use Rattle.node_model.specs.Parcels.{all_gone, end_first}
-use Rattle.node_model.specs.Serving.{Served, serve}
+use Rattle.node_model.specs.Serving.{Served, serve, waiting_as}
 use Rattle.node_model.specs.declared.held.Held.TheVariants.{Request}
 use Rattle.world_model.specs.Census.{one_if}
 use Rattle.world_model.specs.Node.{Node, Over, asked_here, holds, is_leader}
@@ -38,11 +38,14 @@ use Rattle.world_model.specs.Step.{Step, carry_out, send, step_to, with_deeds}
 use Rattle.world_laws.specs.Invariant.{IsLeading}
 use Rattle.world_laws.specs.Places.{Idle}
 use Rattle.weight_laws.specs.Weights.{asks_back, cost_if, hand_weight, is_away, item_weight, node_weight, removes_away, routing_weight}
-use Rattle.weight_laws.proofs.Costs.{MayEnd, RisesBesides, carried-costs, deeds-by, served-costs, served-size, step_weight, table-none}
+use Rattle.weight_laws.proofs.Costs.{MayEnd, RisesBesides, carried-costs, deeds-by, served-costs, served-size, step_weight, table-none, MayEndIf, waking-costs}
 use Rattle.weight_laws.proofs.Made.{made-costs}
-use Rattle.weight_laws.proofs.NodeCalls.{move-is-cheap}
+use Rattle.weight_laws.proofs.NodeCalls.{read-is-cheap}
 use Rattle.weight_laws.proofs.Parts.{size_of}
 use Rattle.weight_laws.proofs.Routes.{route-lowers}
+use Rattle.waiting_model.specs.Calls.{is_withdrawal, may_park}
+use Rattle.route_laws.proofs.Owed.{nobody_reads}
+use Rattle.weight_laws.proofs.Hand.{routing-low}
 
 -- ---- one call in hand
 
@@ -68,14 +71,20 @@ or-none : (t : Bool) → (t || false) ≡ t
 or-none true = refl
 or-none false = refl
 
+lighter : (withdraws : Bool) (cost : ℕ) → 7 ≤ cost → (if withdraws then 3 else cost) ≤ cost
+lighter true cost h = omega (arith, h)
+lighter false cost h = omega arith
+
 hand-of : (d : Directory) (asked : Asked) → hand_weight d (Request asked ∷ [])
-    ≡ routing_weight d (home_of asked.pid asked.call) + one_if (removes_away d (home_of asked.pid asked.call))
+    ≤ routing_weight d (home_of asked.pid asked.call) + one_if (removes_away d (home_of asked.pid asked.call))
 hand-of d asked =
     let one = sum_by-cons (item_weight d) (Request asked) []
+    in let light = lighter (is_withdrawal asked.call) (routing_weight d (home_of asked.pid asked.call))
+    (routing-low d (home_of asked.pid asked.call))
     in let back : one_if (list_any (asks_back d) (Request asked ∷ []))
     ≡ one_if (removes_away d (home_of asked.pid asked.call)) =
     ap one_if (or-none (removes_away d (home_of asked.pid asked.call)))
-    in omega (arith, one, back)
+    in omega (arith, one, light, back)
 
 home-cost : (d : Directory) (home : Home) → routing_weight d home + one_if (removes_away d home) ≤ 10
 home-cost d (homes.Removal name) = away-cost (place_of d name)
@@ -160,26 +169,26 @@ module _ (script : Script) (n : Node) (may : MayStart script n) where
   less-costs : (s : Step) (cost : ℕ) → cost ≤ 10 → step_weight script s ≤ node_weight script n + cost → Costs s
   less-costs s cost few h = omega (arith, few, h)
 
-  ends : (asked : Asked) → asked.caller ≡ n.number → MayEnd script n
-  ends asked e = may.may_end
+  ends : MayEndIf script n
+  ends there = may.may_end
 
   -- ---- its own
 
-  own-served : (call : Call) (s : Step) (o : Option Served) → serve n.deeds n.pid call ≡ o
+  own-served : (call : Call) (s : Step) (o : Option Served) → serve n.deeds (waiting_as (asked_here n call)) ≡ o
       → option_map (carry_out_own script (step_to n) call) o ≡ Some s → Costs s
   own-served call s None e h = not_some s h
   own-served call s (Some served) e h =
       let changed : Step = with_deeds (step_to n) (put_all n.deeds served.changes)
       in let first : step_weight script changed ≤ step_weight script (step_to n) =
       deeds-by script (step_to n) (put_all n.deeds served.changes) (is_leader n) refl
-      (λ other. served-size n.deeds (may.rises other) n.pid call served e)
+      (λ other. served-size n.deeds (may.rises other) (waiting_as (asked_here n call)) served e)
       in let there : MayEnd script n = may.may_end
-      in let second = carried-costs script changed (asked_here n call) served.reply
+      in let second = waking-costs script changed (asked_here n call) served.own served.wakes
       (λ x. record { tries = there.tries; left = there.left })
       in subst Costs (from_some (carry_out_own script (step_to n) call served) s h) (omega (arith, first, second))
 
   acts : (call : Call) (s : Step) → act script (step_to n) call ≡ Some s → Costs s
-  acts call s h = own-served call s (serve n.deeds n.pid call) refl h
+  acts call s h = own-served call s (serve n.deeds (waiting_as (asked_here n call))) refl h
 
   making-by : (call : Call) (kind : Kind) (s : Step) (t : Bool)
       → (if t then Some (send (step_to n) 1 (frames.LeaseAsk kind)) else make script (step_to n) call kind) ≡ Some s
@@ -197,7 +206,7 @@ module _ (script : Script) (n : Node) (may : MayStart script n) where
   sets : (call : Call) (s : Step) (o : Result SemaphoreSet Errno) → start_set script (step_to n) call o ≡ Some s
       → Costs s
   sets call s (Err e) h =
-      let cost = carried-costs script (step_to n) (asked_here n call) (replies.Fail e) (ends (asked_here n call))
+      let cost = carried-costs script (step_to n) (asked_here n call) (replies.Fail e) ends
       in subst Costs (from_some (carry_out script (step_to n) (asked_here n call) (replies.Fail e)) s h)
       (omega (arith, cost))
   sets call s (Ok set) h = makes call kinds.Sem s h
@@ -210,22 +219,22 @@ module _ (script : Script) (n : Node) (may : MayStart script n) where
 
   -- ---- others carry it out
 
-  asking-by : (call : Call) (s : Step) (t : Bool) → is_leader n ≡ t
+  asking-by : (call : Call) (s : Step) (t : Bool) → is_withdrawal call ≡ false → is_leader n ≡ t
       → (if t then route_call script (step_to n) (asked_here n call)
       else Some (send (step_to n) 1 (frames.Ask n.caller.ticket n.pid call))) ≡ Some s
       → Costs s
-  asking-by call s true leads h =
-      let route = route-lowers script (step_to n) (asked_here n call) [] (is-one n.number leads) (may.leads leads)
-      (ends (asked_here n call)) s Idle (λ name e. tt) (omega arith) h
+  asking-by call s true is_call leads h =
+      let route = route-lowers script (step_to n) (asked_here n call) [] (is-one n.number leads) (may.leads leads) ends
+      is_call s Idle (λ name e. tt) (omega arith) h
       in let cost = hand-cost n.leader.directory (asked_here n call)
       in omega (arith, route, cost)
-  asking-by call s false leads h =
+  asking-by call s false is_call leads h =
       let m : Step = send (step_to n) 1 (frames.Ask n.caller.ticket n.pid call)
       in let cost : Costs m = omega arith
       in subst Costs (from_some m s h) cost
 
-  asks : (call : Call) (s : Step) → ask script (step_to n) call ≡ Some s → Costs s
-  asks call s h = asking-by call s (is_leader n) refl h
+  asks : (call : Call) (s : Step) → is_withdrawal call ≡ false → ask script (step_to n) call ≡ Some s → Costs s
+  asks call s is_call h = asking-by call s (is_leader n) is_call refl h
 
 -- a node that has looked at its cache
 looked : (script : Script) (n : Node) (name : Name) → MayStart script n → MayStart script (with_look n name)
@@ -233,56 +242,68 @@ looked script n name may =
     let there : MayEnd script n = may.may_end
     in record { may_end = record { tries = there.tries; left = there.left }; rises = may.rises; leads = may.leads }
 
-module _ (script : Script) (n : Node) (may : MayStart script n) where
-  requests-to : (call : Call) (owner : ℕ) (s : Step) (t : Bool)
-      → (if t then ask script (step_to n) call
-      else Some (send (step_to n) owner (frames.Request n.caller.ticket n.pid call))) ≡ Some s
-      → step_weight script s ≤ node_weight script n + 10
-  requests-to call owner s true h = asks script n may call s h
-  requests-to call owner s false h =
-      let m : Step = send (step_to n) owner (frames.Request n.caller.ticket n.pid call)
-      in let cost : step_weight script m ≤ node_weight script n + 10 = omega arith
-      in subst (λ (x : Step). step_weight script x ≤ node_weight script n + 10) (from_some m s h) cost
+module _ (script : Script) (n : Node) (may : MayStart script n) (call : Call) (is_call : is_withdrawal call ≡ false)
+  where
+    requests-to : (owner : ℕ) (s : Step) (t : Bool)
+        → (if t then ask script (step_to n) call
+        else Some (send (step_to n) owner (frames.Request n.caller.ticket n.pid call))) ≡ Some s
+        → step_weight script s ≤ node_weight script n + 10
+    requests-to owner s true h = asks script n may call s is_call h
+    requests-to owner s false h =
+        let m : Step = send (step_to n) owner (frames.Request n.caller.ticket n.pid call)
+        in let cost : step_weight script m ≤ node_weight script n + 10 = omega arith
+        in subst (λ (x : Step). step_weight script x ≤ node_weight script n + 10) (from_some m s h) cost
 
-  requests : (call : Call) (o : Option ℕ) (s : Step) → request script (step_to n) call o ≡ Some s
-      → step_weight script s ≤ node_weight script n + 10
-  requests call None s h = asks script n may call s h
-  requests call (Some owner) s h = requests-to call owner s (nat_eq owner n.number) h
+    requests : (o : Option ℕ) (s : Step) → request script (step_to n) call o ≡ Some s
+        → step_weight script s ≤ node_weight script n + 10
+    requests None s h = asks script n may call s is_call h
+    requests (Some owner) s h = requests-to owner s (nat_eq owner n.number) h
 
-module _ (script : Script) (n : Node) (may : MayStart script n) where
-  at-name : (call : Call) (name : Name) (s : Step) (t : Bool)
-      → (if t then serve_asked script (step_to n) name (asked_here n call)
-      else request script (step_to (with_look n name)) call (owner_in n.cache name)) ≡ Some s
-      → step_weight script s ≤ node_weight script n + 10
-  at-name call name s true h =
-      let cost = served-costs script (step_to n) s name (asked_here n call) (λ e. may.may_end) may.rises h
-      in let cheap = move-is-cheap (is_leader n)
-      in omega (arith, cost, cheap)
-  at-name call name s false h =
-      let cost = requests script (with_look n name) (looked script n name may) call (owner_in n.cache name) s h
-      in omega (arith, cost)
+module _ (script : Script) (n : Node) (may : MayStart script n) (call : Call) (is_call : is_withdrawal call ≡ false)
+  where
+    unheld : (name : Name) (s : Step) (t : Bool)
+        → (if t then ask script (step_to n) call
+        else request script (step_to (with_look n name)) call (owner_in n.cache name)) ≡ Some s
+        → step_weight script s ≤ node_weight script n + 10
+    unheld name s true h = asks script n may call s is_call h
+    unheld name s false h =
+        let cost = requests script (with_look n name) (looked script n name may) call is_call (owner_in n.cache name) s
+        h
+        in omega (arith, cost)
 
-  -- ---- the end
+    at-name : (name : Name) (s : Step) (t : Bool)
+        → (if t then serve_asked script (step_to n) name (asked_here n call)
+        else if may_park call
+        then ask script (step_to n) call
+        else request script (step_to (with_look n name)) call (owner_in n.cache name)) ≡ Some s
+        → step_weight script s ≤ node_weight script n + 10
+    at-name name s true h =
+        let cost = served-costs script (step_to n) s name (asked_here n call) (λ there. may.may_end) may.rises h
+        in let cheap = read-is-cheap (nobody_reads n (asked_here n call)) (is_leader n)
+        in omega (arith, cost, cheap)
+    at-name name s false h = unheld name s (may_park call) h
 
-  end-by : (call : Call) (row : Row) (t : Bool) → is_leader n ≡ t
-      → (let s : Step = if t then end_leader script (step_to n) call row else leave (step_to n)
-      in step_weight script s ≤ node_weight script n + 10)
-  end-by call row true leads =
-      let over : Node = record n { stage = Over; deeds = put_all n.deeds (end_first n.pid row) }
-      in let none = table-none over leads
-      in let there : MayEnd script n = may.may_end
-      in let cost = carried-costs script (step_to over) (asked_here n call) replies.Ended
-      (λ e. record { tries = there.tries; left = there.left })
-      in omega (arith, none, cost)
-  end-by call row false leads = omega arith
+    -- ---- the end
 
-  -- By the call's home.
-  pub start-costs : (call : Call) (row : Row) (home : Home) (s : Step)
-      → start_by script (step_to n) call row home ≡ Some s → step_weight script s ≤ node_weight script n + 10
-  start-costs call row homes.Own s h = owns script n may call s h
-  start-costs call row (homes.At name) s h = at-name call name s (holds n name) h
-  start-costs call row homes.Keys s h = asks script n may call s h
-  start-costs call row (homes.Removal name) s h = asks script n may call s h
-  start-costs call row homes.Parent s h =
-      subst (λ (x : Step). step_weight script x ≤ node_weight script n + 10) (from_some _ _ h)
-      (end-by call row (is_leader n) refl)
+    end-by : (row : Row) (t : Bool) → is_leader n ≡ t
+        → (let s : Step = if t then end_leader script (step_to n) call row else leave (step_to n)
+        in step_weight script s ≤ node_weight script n + 10)
+    end-by row true leads =
+        let over : Node = record n { stage = Over; deeds = put_all n.deeds (end_first n.pid row) }
+        in let none = table-none over leads
+        in let there : MayEnd script n = may.may_end
+        in let cost = carried-costs script (step_to over) (asked_here n call) replies.Ended
+        (λ e. record { tries = there.tries; left = there.left })
+        in omega (arith, none, cost)
+    end-by row false leads = omega arith
+
+    -- By the call's home.
+    pub start-costs : (row : Row) (home : Home) (s : Step)
+        → start_by script (step_to n) call row home ≡ Some s → step_weight script s ≤ node_weight script n + 10
+    start-costs row homes.Own s h = owns script n may call s h
+    start-costs row (homes.At name) s h = at-name name s (holds n name) h
+    start-costs row homes.Keys s h = asks script n may call s is_call h
+    start-costs row (homes.Removal name) s h = asks script n may call s is_call h
+    start-costs row homes.Parent s h =
+        subst (λ (x : Step). step_weight script x ≤ node_weight script n + 10) (from_some _ _ h)
+        (end-by row (is_leader n) refl)

@@ -1,6 +1,6 @@
 -- What is still to happen in a world, as a number that each event lowers. A call that isn't started weighs 32, which is
 -- more than all that it can set off. A call under way weighs by its place, so that the frame it is in weighs nothing.
-use Rattle.std.specs.Prelude.{◌≡◌, ◌<◌, ℕ, ◌+◌, ◌-◌, ◌*◌, Bool, false, not, nat_eq, List, length, drop, if◌then◌else◌, Option, Some, None, is_some, sum_by, count_by}
+use Rattle.std.specs.Prelude.{◌≡◌, ◌<◌, ℕ, ◌+◌, ◌-◌, ◌*◌, Bool, false, not, nat_eq, nat_lt, List, [], ◌∷◌, length, drop, if◌then◌else◌, Option, Some, None, is_some, sum_by, count_by}
 use Rattle.std.specs.List.{list_any}
 use Rattle.pico_base.specs.declared.call.Home.{Home}
 use Rattle.pico_base.specs.declared.call.Home.TheVariants as homes
@@ -13,14 +13,15 @@ use Rattle.number_maps.specs.Maps.{Numbered}
 use Rattle.kernel_model.specs.Script.{calls_in}
 use Rattle.node_model.specs.declared.held.Held.{Held}
 use Rattle.node_model.specs.declared.held.Held.TheVariants.{Request, Ending}
-use Rattle.node_model.specs.Caller.{Caller, lines_of}
+use Rattle.waiting_model.specs.Calls.{is_withdrawal}
+use Rattle.node_model.specs.Caller.{Caller, lines_of, to_cancel}
 use Rattle.node_model.specs.Directory.{Directory, Place, At, Coming, is_known, is_parcel, place_of}
 use Rattle.world_model.specs.Census.{one_if}
 use Rattle.world_model.specs.Node.{Node, Stage, Unborn, Living, Leaving, Left, Over, is_leader}
 use Rattle.world_model.specs.Step.{Step}
 use Rattle.world_model.specs.World.{World, Streams, node_count, numbers}
 use Rattle.world_laws.specs.ByRules.{step_by_rules}
-use Rattle.world_laws.specs.Places.{CallPlace, Idle, AsksLease, HasLease, InAsk, InRequest, InNotOwner, SentByPlace, SentByRange, InBounce, IsHeld, IsInHand, InAnswer, Ends}
+use Rattle.world_laws.specs.Places.{CallPlace, Idle, AsksLease, HasLease, InAsk, InRequest, InNotOwner, SentByPlace, SentByRange, InBounce, IsHeld, IsInHand, Parked, Waits, InAnswer, Ends}
 
 -- ---- frames
 
@@ -38,6 +39,11 @@ frame_weight (frames.Left parcel) = 2
 frame_weight (frames.ExitTo parcel) = 1
 frame_weight frame = 0
 
+-- a withdrawal weighs more on its way to the leader than from there
+abbrev pub cancel_weight : ℕ → Frame → ℕ
+cancel_weight to (frames.Cancel asked) = if nat_lt 1 to then 3 else 4
+cancel_weight to frame = 0
+
 abbrev pub stream_weight : List Frame → ℕ
 stream_weight there = sum_by frame_weight there
 
@@ -48,7 +54,15 @@ abbrev pub streams_weight : Streams → ℕ
 streams_weight streams = sum_by row_weight streams
 
 abbrev pub send_weight : ℕ × Frame → ℕ
-send_weight sent = frame_weight sent.1
+send_weight sent = frame_weight sent.1 + cancel_weight sent.0 sent.1
+
+-- the withdrawals on their way, by whom they go to: row k of the streams goes to node k
+abbrev pub cancels_to : ℕ → List (List Frame) → ℕ
+cancels_to to row = sum_by (λ there. sum_by (cancel_weight to) there) row
+
+abbrev pub cancels_weight : ℕ → Streams → ℕ
+cancels_weight to [] = 0
+cancels_weight to (row ∷ rows) = cancels_to to row + cancels_weight (to + 1) rows
 
 abbrev pub sends_weight : List (ℕ × Frame) → ℕ
 sends_weight sends = sum_by send_weight sends
@@ -68,6 +82,8 @@ call_weight (SentByRange to) = 10
 call_weight (InBounce sender) = 9
 call_weight (IsHeld name) = 7
 call_weight IsInHand = 0
+call_weight Parked = 0
+call_weight (Waits name) = 6
 call_weight (InAnswer sender reply) = 1
 call_weight Ends = 0
 
@@ -104,9 +120,14 @@ destination_weight None = 0
 destination_weight (Some to) = 3
 
 -- where a name is bound for, and the parcels that are held for it
+abbrev pub is_held_cancel : Held → Bool
+is_held_cancel (Request asked) = is_withdrawal asked.call
+is_held_cancel (Ending parcel) = false
+
 abbrev pub place_weight : Place → ℕ
 place_weight (At node) = 0
-place_weight (Coming to items) = destination_weight to + count_by is_parcel items
+place_weight (Coming to items) =
+    destination_weight to + (count_by is_parcel items + 3 * count_by is_held_cancel items)
 
 abbrev pub places_weight : Numbered Place → ℕ
 places_weight places = sum_by (λ e. place_weight e.1) places
@@ -114,14 +135,21 @@ places_weight places = sum_by (λ e. place_weight e.1) places
 abbrev pub directory_weight : Directory → ℕ
 directory_weight d = places_weight d.places.processes + (places_weight d.places.queues + places_weight d.places.sets)
 
+-- a call that a signal may still interrupt has its withdrawal ahead of it
+abbrev pub strike_weight : Caller → ℕ
+strike_weight c = if is_some (to_cancel c) then 4 else 0
+
 abbrev pub node_weight : Script → Node → ℕ
-node_weight script n = 32 * to_start script n + (table_weight n + directory_weight n.leader.directory)
+node_weight script n =
+    32 * to_start script n + (strike_weight n.caller + (table_weight n + directory_weight n.leader.directory))
 
 -- ---- the world
 
 -- a world, with the calls under way in these places
 abbrev pub weight : Script → World → (ℕ → CallPlace) → ℕ
-weight script w call = sum_by (node_weight script) w.nodes + (streams_weight w.streams + calls_weight script call)
+weight script w call =
+    sum_by (node_weight script) w.nodes
+    + (streams_weight w.streams + (cancels_weight 1 w.streams + calls_weight script call))
 
 -- a script's calls: the tries of its lines, with the `exit` that a block's end stands for
 abbrev pub calls_of : Script → ℕ
@@ -144,7 +172,8 @@ routing_weight d (homes.Removal name) = cost_if (is_known d name)
 routing_weight d home = 7
 
 abbrev pub item_weight : Directory → Held → ℕ
-item_weight d (Request asked) = routing_weight d (home_of asked.pid asked.call)
+item_weight d (Request asked) =
+    if is_withdrawal asked.call then 3 else routing_weight d (home_of asked.pid asked.call)
 item_weight d (Ending parcel) = 1
 
 -- a removal for which a name has to be asked back

@@ -19,7 +19,8 @@ use Rattle.kernel_model.specs.Kernel.{Process}
 use Rattle.kernel_model.specs.Script.{IsSoundScript}
 use Rattle.kernel_model.specs.Valid.{IsValid}
 use Rattle.entry_laws.specs.Entering.{is_used_name}
-use Rattle.node_model.specs.Bodies.{Body, body_in}
+use Rattle.entry_laws.proofs.History.{history-reachable}
+use Rattle.node_model.specs.Bodies.{Body}
 use Rattle.node_model.specs.declared.held.Held.{Held}
 use Rattle.world_model.specs.World.{World, node_count, numbers}
 use Rattle.world_laws.specs.Invariant.{Holds}
@@ -27,7 +28,7 @@ use Rattle.world_laws.specs.Names.{NameHolds, held_as, held_at, name_sight}
 use Rattle.world_laws.specs.Places.{Beside}
 use Rattle.world_laws.specs.Sights.{is_born_in, node_of}
 use Rattle.bound_laws.specs.Bounded.{NodeIsBounded}
-use Rattle.bound_laws.proofs.Deeds.{in-numbers, is-among, length-of-numbers}
+use Rattle.bound_laws.proofs.Numbers.{in-numbers, is-among, length-of-numbers}
 use Rattle.bound_laws.proofs.Ranges.{few-blocks}
 
 -- ---- entries by rising number
@@ -76,7 +77,8 @@ module _ (script : Script) (sound : IsSoundScript script) (w : World) (hand : Li
   used-among-nodes : (q : ℕ) → is_used_name b.kernel (Proc q) ≡ true
       → list_any (nat_eq q) (map b.pids (numbers 1 (node_count script))) ≡ true
   used-among-nodes q used =
-      let valid : IsValid b.kernel = reachable_kernels_are_valid_lemma b.kernel (w.journal, holds.history.legal)
+      let valid : IsValid b.kernel = reachable_kernels_are_valid_lemma b.kernel
+      (history-reachable script b.lines b.kernel b.places holds.history)
       in let pids = holds.pids
       in let it = some-process (get b.kernel.processes q) (sym (valid.used_processes q) ∙ used)
       in let c = pids.there q it.0 it.1
@@ -96,7 +98,7 @@ module _ (script : Script) (sound : IsSoundScript script) (w : World) (hand : Li
         | inl used ↦ used
         | inr unused ↦
             not_some body
-            (sym (n.tables p ∙ ap (λ place. held_as place (body_in b.kernel (Proc q)) p) (n.made.1 unused)) ∙ is)
+            (sym (n.tables p ∙ ap (λ place. held_as place (b.body (Proc q)) p) (n.made.1 unused)) ∙ is)
       ]
 
   -- So there are no more than nodes.
@@ -105,7 +107,7 @@ module _ (script : Script) (sound : IsSoundScript script) (w : World) (hand : Li
       let bodies : Numbered Body = (node_of w p).deeds.processes
       in let many =
       length-le_from_is_member nat_eq_equiv (map (λ e. e.0) bodies) (map b.pids (numbers 1 (node_count script)))
-      (distinct-numbers bodies bounded.deeds.processes)
+      (distinct-numbers bodies bounded.deeds.rise.processes)
       (λ q among.
       let found = number-found bodies q among in used-among-nodes q (held-is-used p q found.0 found.1))
       in let count = length-map bodies (λ (e : ℕ × Body). e.0)

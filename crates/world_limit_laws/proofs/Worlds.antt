@@ -11,8 +11,8 @@ use Rattle.kernel_model.specs.Script.{IsSoundScript}
 use Rattle.world_model.specs.Node.{Node, opening_node, unborn_node}
 use Rattle.world_model.specs.Step.{Step}
 use Rattle.world_model.specs.Starting.{run}
-use Rattle.world_model.specs.Turn.{take_by_kind, take_frame}
-use Rattle.world_laws.proofs.ByRules.{taken-by-kind}
+use Rattle.world_model.specs.Turn.{take_by_rules, take_frame}
+use Rattle.world_laws.proofs.ByRules.{taken-by-rules}
 use Rattle.world_model.specs.World.{World, after_turn, is_enabled, node_at, node_count, numbers, opening_world, runs_at, step, world_after}
 use Rattle.world_laws.specs.Sights.{node_of}
 use Rattle.world_laws.proofs.Changes.{Changes, frames_if, sent, taken}
@@ -110,10 +110,10 @@ module _ (script : Script) where
         after-some (world_without w p q t.rest) next p (take_frame script (node_of w p) q t.frame) after
         in let s : Step = found.0
         in let bounded : StepIsBounded script s =
-        of-some (StepIsBounded script) (take_by_kind script (node_of w p) q t.frame) s
+        of-some (StepIsBounded script) (take_by_rules script (node_of w p) q t.frame) s
         (take-turn-bounded script (node_of w p) p q t.frame (b.bounded.nodes p h.low h.high)
         (head-is-bounded script w [] p q t.frame t.rest h b.bounded))
-        (taken-by-kind script (node_of w p) q t.frame s found.1)
+        (taken-by-rules script (node_of w p) q t.frame s found.1)
         in let there : AreWithin (t.frame ∷ t.rest) =
         subst AreWithin (frames-low w p q h.low h.low_from ∙ h.head) (k.streams p q)
         in let head : IsFrameWithin t.frame = there.0
