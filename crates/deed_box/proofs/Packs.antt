@@ -36,6 +36,14 @@ module _ {B : Type 0} (fits : B → Name → Bool) (IsSpelled : B → List ℕ �
   some_at (x ∷ ps) zero p lt is nothing = inl (subst (IsNoDeed fits IsSpelled) is nothing)
   some_at (x ∷ ps) (suc i) p lt is nothing = inr (some_at ps i p (omega arith) is nothing)
 
+  -- there are as many deeds as packed ones
+  pub packed-length : (ds : List (Name × B)) (ps : List PackedDeed) → ArePackedDeeds fits IsSpelled ds ps
+      → length ds ≡ length ps
+  packed-length [] [] all = refl
+  packed-length [] (p ∷ ps) all = absurd all
+  packed-length (d ∷ ds) [] all = absurd all
+  packed-length (d ∷ ds) (p ∷ ps) all = ap suc (packed-length ds ps all.1)
+
   pub ArePackedDeeds-append : (ds es : List (Name × B)) (ps qs : List PackedDeed) → ArePackedDeeds fits IsSpelled ds ps
       → ArePackedDeeds fits IsSpelled es qs → ArePackedDeeds fits IsSpelled (ds ++ es) (ps ++ qs)
   ArePackedDeeds-append [] es [] qs a b = b

@@ -4,6 +4,7 @@ use Rattle.std.specs.Coded.{Coded, code_by, coded×, coded_list, coded_ℕ}
 use Rattle.pico_base.specs.declared.numbers.Name.{Name}
 use Rattle.pico_base.specs.declared.numbers.Name.TheVariants.{Proc, Msg, Sem}
 use Rattle.number_maps.specs.Maps.{Numbered}
+use Rattle.number_maps.specs.Rising.{IsRising}
 use Rattle.node_model.specs.Kinds.{Named, get_named}
 
 -- the bodies of the names that are held
@@ -28,6 +29,12 @@ deeds_of name bodies = map (λ e. (name e.0, e.1)) bodies
 
 abbrev pub all_deeds : {B : Type 0} → Named B → List (Name × B)
 all_deeds bodies = deeds_of Msg bodies.queues ++ deeds_of Sem bodies.sets ++ deeds_of Proc bodies.processes
+
+-- within each kind the numbers rise
+pub record AreRising {B : Type 0} (bodies : Named B) : Type 0 where
+  pub processes : IsRising bodies.processes
+  pub queues : IsRising bodies.queues
+  pub sets : IsRising bodies.sets
 
 -- none of these names is held
 abbrev pub AreAbsent : {B : Type 0} → Named B → List Name → Type 0

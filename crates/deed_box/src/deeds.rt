@@ -4,6 +4,7 @@ ghost use Rattle.std.specs.Borrow.{sem};
 ghost use Rattle.std.specs.List.{IsDistinct};
 ghost use Rattle.std.specs.Option.{option_copied, option_copied_mut, option_map};
 ghost use Rattle.node_model.specs.Kinds.{get_named, none_named, put_named, without_named};
+ghost use Rattle.deed_box.specs.Deeds.{AreRising};
 ghost use Rattle.deed_box.specs.Standing.{StandsNamed};
 
 use crate::{Deed, Shared};
@@ -135,6 +136,16 @@ impl<B> Deeds<B> {
             Name::Sem(id) => self.sets.take(id.0),
         }?;
         Some(Deed { name, body })
+    }
+
+    /// Within each kind the numbers of the deeds rise.
+    #[inline(always)]
+    pub fn rise(&self)
+        ensures { AreRising self.now.bodies }
+    {
+        self.processes.rise();
+        self.queues.rise();
+        self.sets.rise();
     }
 
     /// Whether the name's deed is there.

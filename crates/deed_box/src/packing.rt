@@ -47,6 +47,7 @@ fn unpack_all<B: Shared + Drop>(
     packed: &[PackedDeed],
 ) -> Result<Vec<(Name, B)>, UnpackFault>
     ensures ok { IfOk result (λ deeds. ArePackedDeeds B.fits B.IsSpelled deeds.items packed.now) }
+    ensures count { IfOk result (λ deeds. length deeds.items ≡ length packed.now) }
     ensures not_a_body { result ≡ Err NotABody → SomeIsNoDeed B.fits B.IsSpelled packed.now }
 {
     let mut deeds = Vec::with_capacity(alloc, packed.len())?;
@@ -62,12 +63,14 @@ fn unpack_all<B: Shared + Drop>(
 impl<B: Shared + Drop> Deeds<B> {
     /// Unpacks and puts deeds of different names that aren't there, all or none of them. NotABody comes exactly where
     /// the bytes of one of them spell no body that goes with its name. A refusal changes nothing and hands them back.
+    /// What room there was beyond theirs is there.
     pub fn put_packed(&mut self, packed: PackedDeeds) -> Result<(), (UnpackFault, PackedDeeds)>
         requires distinct { IsDistinct is_same_name (names_of packed) }
         requires absent { AreAbsent self.old.bodies (names_of packed) }
         ensures ok { OnOk result
             ((deeds : List (Named × B)) × ArePackedDeeds B.fits B.IsSpelled deeds packed
             × (self.new.bodies ≡ put_all self.old.bodies deeds)) }
+        ensures spare { OnOk result (self.old.spare ≤ self.new.spare + length packed) }
         ensures not_a_body { IfErr result (λ back. back.0 ≡ NotABody → SomeIsNoDeed B.fits B.IsSpelled packed) }
         ensures err { OnErr result (self.new.bodies ≡ self.old.bodies) }
         ensures back { IfErr result (λ back. back.1 ≡ packed) }
@@ -82,6 +85,7 @@ impl<B: Shared + Drop> Deeds<B> {
         ensures ok { OnOk result
             ((deeds : List (Named × B)) × ArePackedDeeds B.fits B.IsSpelled deeds packed.now
             × (self.new.bodies ≡ put_all self.old.bodies deeds)) }
+        ensures spare { OnOk result (self.old.spare ≤ self.new.spare + length packed.now) }
         ensures not_a_body { result ≡ Err NotABody → SomeIsNoDeed B.fits B.IsSpelled packed.now }
         ensures err { OnErr result (self.new.bodies ≡ self.old.bodies) }
     {
@@ -94,7 +98,8 @@ impl<B: Shared + Drop> Deeds<B> {
     /// Puts deeds for which there is room.
     fn set_all(&mut self, deeds: Vec<(Name, B)>)
         requires { length deeds.items ≤ self.old.spare }
-        ensures { self.new.bodies ≡ put_all self.old.bodies deeds.items }
+        ensures bodies { self.new.bodies ≡ put_all self.old.bodies deeds.items }
+        ensures spare { self.old.spare ≤ self.new.spare + length deeds.items }
     {
         for (name, body) in deeds {
             self.set(name, body);

@@ -6,7 +6,7 @@ use Rattle.rpc_frame.specs.declared.asked.Asked.{Asked}
 use Rattle.node_model.specs.declared.held.Held.{Held}
 use Rattle.node_model.specs.declared.held.Held.TheVariants.{Request}
 use Rattle.world_model.specs.Step.{Step}
-use Rattle.world_model.specs.Routes.{route_call}
+use Rattle.world_model.specs.Routes.{route_held}
 use Rattle.world_model.specs.Releases.{release, release_round, release_rounds}
 use Rattle.route_laws.proofs.release.Parcels.{PlacesRise}
 use Rattle.route_laws.proofs.release.RoutedParcels.{HoldsNoMore, route-holds-no-more}
@@ -14,9 +14,9 @@ use Rattle.end_rules.specs.Ending.{GoesOn, parcels_left}
 
 -- ---- one item
 
--- a call that is routed
+-- a call or a withdrawal that is routed
 pub call-goes-on : (script : Script) (s t : Step) (asked : Asked) → PlacesRise s.node.leader.directory
-    → route_call script s asked ≡ Some t → GoesOn script s (Request asked) t
+    → route_held script s asked ≡ Some t → GoesOn script s (Request asked) t
 call-goes-on script s t asked rises is =
     let few : HoldsNoMore s t = route-holds-no-more script s t asked rises is
     in record {

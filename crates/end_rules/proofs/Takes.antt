@@ -32,47 +32,50 @@ none-from (Some x) h = differ h
 
 -- ---- the exit isn't carried out here
 
-no-parent : (s : Step) (parcel : Parcel) (o : Option (Numbered model.Body)) → exit_with s parcel o None ≡ None
-no-parent s parcel None = refl
-no-parent s parcel (Some bodies) = refl
+no-parent : (script : Script) (s : Step) (parcel : Parcel) (o : Option (Numbered model.Body))
+    → exit_with script s parcel o None ≡ None
+no-parent script s parcel None = refl
+no-parent script s parcel (Some bodies) = refl
 
-not-let : (s : Step) (parcel : Parcel) (o : Option (Numbered model.Body)) (parent : model.Body)
-    → lets_end parcel.pid parent ≡ false → exit_with s parcel o (Some parent) ≡ None
-not-let s parcel None parent h = refl
-not-let s parcel (Some bodies) parent h = rw h refl
+not-let : (script : Script) (s : Step) (parcel : Parcel) (o : Option (Numbered model.Body)) (parent : model.Body)
+    → lets_end parcel.pid parent ≡ false → exit_with script s parcel o (Some parent) ≡ None
+not-let script s parcel None parent h = refl
+not-let script s parcel (Some bodies) parent h = rw h refl
 
-by-parent : (s : Step) (parcel : Parcel) (bodies : Option (Numbered model.Body)) (o : Option Body)
-    → lets parcel.pid o ≡ false → exit_with s parcel bodies (option_map body_of o) ≡ None
-by-parent s parcel bodies None h = no-parent s parcel bodies
-by-parent s parcel bodies (Some parent) h = not-let s parcel bodies (body_of parent) h
+by-parent : (script : Script) (s : Step) (parcel : Parcel) (bodies : Option (Numbered model.Body)) (o : Option Body)
+    → lets parcel.pid o ≡ false → exit_with script s parcel bodies (option_map body_of o) ≡ None
+by-parent script s parcel bodies None h = no-parent script s parcel bodies
+by-parent script s parcel bodies (Some parent) h = not-let script s parcel bodies (body_of parent) h
 
 -- where the parent isn't held, or doesn't list the process
-pub no-exit-by : (s : Step) (bodies : Named Body) (parcel : Parcel) → s.node.deeds ≡ bodies_of bodies
-    → lets parcel.pid (get_named bodies (Proc parcel.parent)) ≡ false → exit_here s parcel ≡ None
-no-exit-by s bodies parcel is h =
-    ap (exit_with s parcel (fitting_bodies s.node.deeds parcel))
+pub no-exit-by : (script : Script) (s : Step) (bodies : Named Body) (parcel : Parcel)
+    → s.node.deeds ≡ bodies_of bodies → lets parcel.pid (get_named bodies (Proc parcel.parent)) ≡ false
+    → exit_here script s parcel ≡ None
+no-exit-by script s bodies parcel is h =
+    ap (exit_with script s parcel (fitting_bodies s.node.deeds parcel))
     (ap (λ deeds. get_named deeds (Proc parcel.parent)) is ∙ bodies-get bodies (Proc parcel.parent))
-    ∙ by-parent s parcel (fitting_bodies s.node.deeds parcel) (get_named bodies (Proc parcel.parent)) h
+    ∙ by-parent script s parcel (fitting_bodies s.node.deeds parcel) (get_named bodies (Proc parcel.parent)) h
 
 -- ---- the process doesn't end
 
-by-place : (s : Step) (bodies : Named Body) (parcel : Parcel) (o : Option Place) (b : Bool) (made_by : Option ℕ)
+by-place : (script : Script) (s : Step) (bodies : Named Body) (parcel : Parcel) (o : Option Place) (b : Bool)
+    (made_by : Option ℕ)
     → s.node.deeds ≡ bodies_of bodies → may_end_by bodies s.node.number parcel (route_by o b made_by) ≡ false
-    → end_by s parcel o ≡ None
-by-place s bodies parcel None b made_by is h = refl
-by-place s bodies parcel (Some (Coming to items)) b made_by is h = differ h
-by-place s bodies parcel (Some (At node)) b made_by is h = by-test (nat_eq node s.node.number) h
+    → end_by script s parcel o ≡ None
+by-place script s bodies parcel None b made_by is h = refl
+by-place script s bodies parcel (Some (Coming to items)) b made_by is h = differ h
+by-place script s bodies parcel (Some (At node)) b made_by is h = by-test (nat_eq node s.node.number) h
   where
     by-test : (t : Bool)
         → (if t then lets parcel.pid (get_named bodies (Proc parcel.parent)) else true) ≡ false
         → (if t
-        then option_map (release_names parcel node) (exit_here s parcel)
+        then option_map (release_names parcel node) (exit_here script s parcel)
         else Some (release_names parcel node (send s node (frames.ExitTo parcel))))
         ≡ None
-    by-test true h = ap (option_map (release_names parcel node)) (no-exit-by s bodies parcel is h)
+    by-test true h = ap (option_map (release_names parcel node)) (no-exit-by script s bodies parcel is h)
     by-test false h = differ h
 
-no-rounds : (script : Script) (rounds : ℕ) (s : Step) (parcel : Parcel) → end_process s parcel ≡ None
+no-rounds : (script : Script) (rounds : ℕ) (s : Step) (parcel : Parcel) → end_process script s parcel ≡ None
     → release_rounds rounds script (Ending parcel ∷ []) s ≡ None
 no-rounds script zero s parcel none =
     ap (option_and_then (go_on_after no_round (release_round script no_round []) [])) none
@@ -88,8 +91,8 @@ pub no-release : (script : Script) (s : Step) (d : Directory) (bodies : Named Bo
     → release script (Ending parcel ∷ []) s ≡ None
 no-release script s d bodies parcel is place h =
     no-rounds script _ s parcel
-    (ap (end_by s parcel) place
-    ∙ by-place s bodies parcel (place_of d (Proc parcel.parent)) (maker_stays d (maker d (Proc parcel.parent)))
+    (ap (end_by script s parcel) place
+    ∙ by-place script s bodies parcel (place_of d (Proc parcel.parent)) (maker_stays d (maker d (Proc parcel.parent)))
     (maker d (Proc parcel.parent)) is h)
 
 -- ---- a rule that has no step

@@ -36,13 +36,14 @@ pub record AllArrived (old : Step) (names : List Name) (node : ℕ) (new : Step)
 -- ---- the end
 
 -- the exit is carried out here, or sent to the parent's node
-abbrev pub exit_at : Step → Parcel → ℕ → Option Step
-exit_at step parcel node =
-    if nat_eq node step.node.number then exit_here step parcel else Some (send step node (frames.ExitTo parcel))
+abbrev pub exit_at : Script → Step → Parcel → ℕ → Option Step
+exit_at script step parcel node =
+    if nat_eq node step.node.number then exit_here script step parcel else Some (send step node (frames.ExitTo parcel))
 
 -- The parent is at this node, and these items are to be released.
-pub record EndsAt (old : Step) (parcel : Parcel) (node : ℕ) (new : Step) (items : List Held) : Type 0 where
-  pub after : end_by old parcel (Some (At node)) ≡ Some (Releases new items)
+pub record EndsAt (script : Script) (old : Step) (parcel : Parcel) (node : ℕ) (new : Step) (items : List Held)
+    : Type 0 where
+  pub after : end_by script old parcel (Some (At node)) ≡ Some (Releases new items)
   pub counts : parcels_in new + parcels_among items ≤ parcels_in old
 
 -- The parcel's end is held, or these items are to be released.
@@ -54,8 +55,9 @@ abbrev pub CountsAfter : Step → Step → Option (List Held) → Type 0
 CountsAfter old new None = parcels_in new ≤ parcels_in old + 1
 CountsAfter old new (Some items) = parcels_in new + parcels_among items ≤ parcels_in old
 
-pub record Ends (old : Step) (parcel : Parcel) (new : Step) (released : Option (List Held)) : Type 0 where
-  pub after : end_process old parcel ≡ Some (after_end new released)
+pub record Ends (script : Script) (old : Step) (parcel : Parcel) (new : Step) (released : Option (List Held))
+    : Type 0 where
+  pub after : end_process script old parcel ≡ Some (after_end new released)
   pub counts : CountsAfter old new released
 
 -- ---- a round

@@ -3,6 +3,7 @@
 
 mod ends;
 mod fitting;
+mod parents;
 mod releasing;
 mod taking;
 

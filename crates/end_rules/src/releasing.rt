@@ -10,9 +10,10 @@ use lease_leader::HeldList;
 use node_model::Held;
 use node_state::Growing;
 use pico_base::{Memory, Script};
-use route_rules::route_call;
+use route_rules::route_held;
 
-/// Takes an item off: a call is routed, and of a parcel the process ends. What that releases goes in front of the rest.
+/// Takes an item off: a call or a withdrawal is routed, and of a parcel the process ends. What that releases goes in
+/// front of the rest.
 fn take_off(step: &mut Growing, script: &Script, item: Held) -> Result<Option<HeldList>, Memory>
     requires sound { IsSoundScript script.now }
     ensures { IfOk result (TakesOff script.now (step_of step.old) item (step_of step.new)) }
@@ -20,10 +21,10 @@ fn take_off(step: &mut Growing, script: &Script, item: Held) -> Result<Option<He
     match item {
         Held::Request(asked) => {
             step.node.leader.directory.places_rise();
-            route_call(step, script, asked)?;
+            route_held(step, script, asked)?;
             Ok(None)
         }
-        Held::Ending(parcel) => end_process(step, parcel),
+        Held::Ending(parcel) => end_process(step, script, parcel),
     }
 }
 
@@ -57,8 +58,8 @@ fn release_round(
     Ok(false)
 }
 
-/// The release rule: the first item is taken off. A call is routed, and of a parcel the process ends, and what that
-/// releases goes in front. Memory, too, where one of the items has no rule.
+/// The release rule: the first item is taken off. A call or a withdrawal is routed, and of a parcel the process ends,
+/// and what that releases goes in front. Memory, too, where one of the items has no rule.
 pub fn release(step: &mut Growing, script: &Script, items: HeldList) -> Result<(), Memory>
     requires sound { IsSoundScript script.now }
     ensures { OnOk result (release script.now items (step_of step.old) ≡ Some (step_of step.new)) }

@@ -112,9 +112,15 @@ fn may_take_exit(node: &State, from: Node, parcel: &Parcel) -> bool
 }
 
 /// The ExitTo rule: the exit is carried out here.
-pub fn take_exit(step: &mut Growing, from: Node, parcel: Parcel) -> Result<(), TurnFault>
+pub fn take_exit(
+    step: &mut Growing,
+    script: &Script,
+    from: Node,
+    parcel: Parcel,
+) -> Result<(), TurnFault>
     requires fresh { IsFresh step.old }
-    ensures { Turns (take_exit (node_of step.old.node) from parcel) step.old step.new result }
+    requires sound { IsSoundScript script.now }
+    ensures { Turns (take_exit script.now (node_of step.old.node) from parcel) step.old step.new result }
 {
     if !may_take_exit(&step.node, from, &parcel) {
         return Err(TurnFault::NotAllowed);
@@ -125,5 +131,5 @@ pub fn take_exit(step: &mut Growing, from: Node, parcel: Parcel) -> Result<(), T
     if !fits(step.node.alloc, &step.node.deeds, &parcel)? {
         return Err(TurnFault::NotAllowed);
     }
-    Ok(exit_fitting(step, parcel)?)
+    Ok(exit_fitting(step, script, parcel)?)
 }

@@ -1,33 +1,30 @@
 -- A deed that comes, and its bytes.
-use Rattle.std.specs.Prelude.{◌≡◌, ℕ, Bool, true, false, List, Option, Some, None}
+use Rattle.std.specs.Prelude.{◌≡◌, ℕ, List, Option, Some, None}
 use Rattle.pico_base.specs.declared.numbers.Name.{Name}
 use Rattle.rpc_frame.specs.declared.deed.PackedDeed.{PackedDeed}
 use Rattle.rpc_frame.specs.declared.frame.Frame.TheVariants as frames
 use Rattle.node_model.specs.Bodies.{Body}
 use Rattle.node_model.specs.Spelling.{pack, read_deed}
+use Rattle.node_serve.specs.declared.body.Body as held
+use Rattle.node_serve.specs.Bodies.{body_of}
 use Rattle.world_model.specs.Step.{Step, send, with_node}
 use Rattle.world_model.specs.Moves.{keep}
 
--- its bytes are those that are written of a body which goes with its name
-pub record IsDeed (deed : PackedDeed) : Type 0 where
-  pub body : Body
-  pub read : read_deed deed ≡ Some body
-  pub packed : deed ≡ pack deed.name body
+-- its bytes are those that are written of this body, which goes with its name
+pub record IsDeed (deed : PackedDeed) (body : held.Body) : Type 0 where
+  pub read : read_deed deed ≡ Some (body_of body)
+  pub packed : deed ≡ pack deed.name (body_of body)
 
 -- they are, or they are read as no body
-abbrev pub TellsDeed : PackedDeed → Bool → Type 0
-TellsDeed deed true = IsDeed deed
-TellsDeed deed false = read_deed deed ≡ None
+abbrev pub TellsDeed : PackedDeed → Option held.Body → Type 0
+TellsDeed deed (Some body) = IsDeed deed body
+TellsDeed deed None = read_deed deed ≡ None
 
 -- a deed with these bytes
 abbrev pub deed_of : Name → List ℕ → PackedDeed
 deed_of name bytes = record { name = name; body = bytes }
 
--- the deed is held here besides
-abbrev pub with_held : Step → Name → Body → Step
-with_held step name body = with_node step (keep step.node name body)
-
 -- it is sent on to this node, or held here
 abbrev pub sent_on : Step → Name → Option ℕ → Body → Step
-sent_on step name None body = with_held step name body
+sent_on step name None body = with_node step (keep step.node name body)
 sent_on step name (Some to) body = send step to (frames.Grant (pack name body))

@@ -1,25 +1,30 @@
 //! A node takes a frame about a queue or set that moves.
-ghost use Rattle.std.specs.Prelude.{◌≡◌, ◌&&◌, IfOk, OnOk, Some, unwrap_or};
+ghost use Rattle.std.specs.Prelude.{◌≡◌, ◌&&◌, IfOk, IsTrue, OnOk, Some, unwrap_or};
+ghost use Rattle.std.specs.List.{list_all};
 ghost use Rattle.std.specs.Option.{option_and_then, option_map};
 ghost use Rattle.kernel_model.specs.Script.{IsSoundScript};
 ghost use Rattle.node_model.specs.Kinds.{get_named, is_object};
 ghost use Rattle.node_model.specs.Directory.{arrive, bound_for, held_for, is_coming, place_of, stays};
 ghost use Rattle.node_model.specs.Spelling.{read_deed};
+ghost use Rattle.node_serve.specs.Bodies.{body_of};
 ghost use Rattle.world_model.specs.Node.{holds, is_leader, is_node};
 ghost use Rattle.world_model.specs.Calls.{is_from_leader, is_to_leader};
 ghost use Rattle.world_model.specs.Step.{with_directory, with_node};
-ghost use Rattle.world_model.specs.Moves.{come_back, give_back, goes_on_to, is_at, is_new_here, pass_on, receive_deed};
+ghost use Rattle.world_model.specs.Moves.{come_back, give_back, goes_on_to, has_nodes, is_at, is_new_here, pass_on};
+ghost use Rattle.world_model.specs.Moves.{receive_deed};
+ghost use Rattle.world_model.specs.Releases.{release};
 ghost use Rattle.world_model.specs.Moves.{suggest, take_give_back, take_grant, take_recall, take_suggest};
 ghost use Rattle.node_state.specs.State.{node_of, step_of};
 ghost use Rattle.node_state.specs.Turning.{IsFresh, Turns};
-ghost use Rattle.move_rules.specs.Coming.{IsDeed, TellsDeed, deed_of, sent_on, with_held};
+ghost use Rattle.move_rules.specs.Coming.{IsDeed, TellsDeed, deed_of, sent_on};
 
+use deed_box::Shared;
 use end_rules::release;
 use lease_leader::HeldList;
-use node_serve::is_body;
+use node_serve::{Body, callers};
 use node_state::forms::{is_node, is_object};
 use node_state::{Growing, LEADER, State, TurnFault, unreached};
-use pico_base::{Memory, Name, Node, Script};
+use pico_base::{Memory, Name, Node, Script, UnpackFault};
 use route_rules::recall_from;
 use rpc_frame::{Frame, PackedDeed};
 use std::alloc::Global;
@@ -111,18 +116,37 @@ fn is_new_here(node: &State, name: &Name) -> bool
     is_object(name) && !node.holds(*name) && !node.leases.holds(*name)
 }
 
-/// Whether the bytes are those of a body that goes with the name.
-fn are_body(alloc: Global, name: Name, bytes: &[u8]) -> Result<bool, Memory>
+/// The body of these bytes that goes with the name, where they are such a body's.
+fn read(alloc: Global, name: Name, bytes: &[u8]) -> Result<Option<Body>, Memory>
     ensures { IfOk result (TellsDeed (deed_of name bytes.now)) }
 {
-    is_body(alloc, name, bytes)
+    match <Body as Shared>::unpack(alloc, name, bytes) {
+        Ok(body) => Ok(Some(body)),
+        Err(UnpackFault::NotABody) => Ok(None),
+        Err(UnpackFault::Memory) => Err(Memory),
+    }
 }
 
-/// Whether the deed's bytes are those of a body that goes with its name.
-fn is_deed(alloc: Global, deed: &PackedDeed) -> Result<bool, Memory>
+/// The body of the deed, where its bytes are those of one that goes with its name.
+fn read_deed(alloc: Global, deed: &PackedDeed) -> Result<Option<Body>, Memory>
     ensures { IfOk result (TellsDeed deed.now) }
 {
-    are_body(alloc, deed.name, deed.body.as_slice())
+    read(alloc, deed.name, deed.body.as_slice())
+}
+
+/// Whether all of these are nodes of the script.
+fn are_nodes(script: &Script, nodes: &[Node]) -> bool
+    ensures { result ≡ list_all (is_node script.now) nodes.now }
+{
+    nodes.iter().all(|node| is_node(script, *node))
+}
+
+/// Whether those who wait at the body have nodes of the script.
+fn has_nodes(alloc: Global, script: &Script, body: &Body) -> Result<bool, Memory>
+    ensures { IfOk result (λ yes. yes ≡ has_nodes script.now (body_of body.now)) }
+{
+    let nodes = callers(alloc, body)?;
+    Ok(are_nodes(script, nodes.as_slice()))
 }
 
 /// The node that the deed of a coming name goes on to: where it is bound for, if that stays and isn't node 1.
@@ -134,18 +158,6 @@ fn goes_on_to(node: &State, name: &Name) -> Option<Node>
         Some(to)
     } else {
         None
-    }
-}
-
-/// The deed has come to the leader, which keeps it. Memory, too, where its name is held already.
-fn keep(step: &mut Growing, deed: PackedDeed) -> Result<(), Memory>
-    ensures { OnOk result (option_map (with_held (step_of step.old) deed.name) (read_deed deed)
-        ≡ Some (step_of step.new)) }
-{
-    if step.node.keep(deed)? {
-        Ok(())
-    } else {
-        Err(unreached())
     }
 }
 
@@ -173,45 +185,54 @@ fn arrive(step: &mut Growing, name: &Name, node: Node) -> Result<HeldList, Memor
 }
 
 /// What has come is sent on to the node, or kept by the leader. Memory, too, where its name is held already.
-fn send_on(step: &mut Growing, deed: PackedDeed, to: Option<Node>) -> Result<(), Memory>
-    requires deed { IsDeed deed }
-    ensures { OnOk result (option_map (sent_on (step_of step.old) deed.name to) (read_deed deed)
-        ≡ Some (step_of step.new)) }
+fn send_on(step: &mut Growing, deed: PackedDeed, body: Body, to: Option<Node>) -> Result<(), Memory>
+    requires deed { IsDeed deed body }
+    ensures { OnOk result (step_of step.new ≡ sent_on (step_of step.old) deed.name to (body_of body)) }
 {
     match to {
         Some(to) => step.send(to, Frame::Grant { deed }),
-        None => keep(step, deed),
+        None => step.node.create(deed.name, body),
     }
 }
 
 /// What has come is kept by the leader, or goes on to the node, which is its name's place from now on: what was held
 /// for the name. Memory, too, where the name isn't on its way.
-fn pass_on(step: &mut Growing, deed: PackedDeed, to: Option<Node>) -> Result<HeldList, Memory>
+fn pass_on(
+    step: &mut Growing,
+    deed: PackedDeed,
+    body: Body,
+    to: Option<Node>,
+) -> Result<HeldList, Memory>
     requires fresh { IsFresh step.old }
-    requires deed { IsDeed deed }
+    requires deed { IsDeed deed body }
     ensures held { IfOk result (λ items. items ≡ held_for step.old.node.leader.directory deed.name) }
     ensures passed { OnOk result
-        (option_map (λ body. pass_on (node_of step.old.node) deed.name body to) (read_deed deed)
-        ≡ Some (step_of step.new)) }
+        (step_of step.new ≡ pass_on (node_of step.old.node) deed.name (body_of body) to) }
 {
     let name = deed.name;
     let items = arrive(step, &name, place_after(&to))?;
-    send_on(step, deed, to)?;
+    send_on(step, deed, body, to)?;
     Ok(items)
 }
 
 /// The deed has come: it goes on, or the leader keeps it, and what was held for its name is released. Memory, too,
 /// where one of the items has no rule.
-fn come_back(step: &mut Growing, script: &Script, deed: PackedDeed) -> Result<(), Memory>
+fn come_back(
+    step: &mut Growing,
+    script: &Script,
+    deed: PackedDeed,
+    body: Body,
+) -> Result<(), Memory>
     requires fresh { IsFresh step.old }
     requires sound { IsSoundScript script.now }
-    requires deed { IsDeed deed }
-    ensures { OnOk result (option_and_then (come_back script.now (node_of step.old.node) deed.name) (read_deed deed)
+    requires deed { IsDeed deed body }
+    requires nodes { IsTrue (has_nodes script.now (body_of body)) }
+    ensures { OnOk result (come_back script.now (node_of step.old.node) deed.name (body_of body)
         ≡ Some (step_of step.new)) }
 {
     let name = deed.name;
     let to = goes_on_to(&step.node, &name);
-    let items = pass_on(step, deed, to)?;
+    let items = pass_on(step, deed, body, to)?;
     release(step, script, items)
 }
 
@@ -224,7 +245,8 @@ fn may_come_back(node: &State, name: &Name) -> bool
 }
 
 /// The GiveBack rule: the deed goes on to the node that it is bound for, if that stays, or the leader keeps it; then
-/// what was held for it is released. Memory, too, where one of the items has no rule.
+/// what was held for it is released. NotAllowed, too, where who waits there has no node of the script; Memory, too,
+/// where one of the items has no rule.
 pub fn take_give_back(
     step: &mut Growing,
     script: &Script,
@@ -236,34 +258,47 @@ pub fn take_give_back(
     ensures { Turns (take_give_back script.now (node_of step.old.node) from deed) step.old step.new result }
 {
     let name = deed.name;
-    if !may_come_back(&step.node, &name) || !is_deed(step.node.alloc, &deed)? {
+    if !may_come_back(&step.node, &name) {
         return Err(TurnFault::NotAllowed);
     }
-    Ok(come_back(step, script, deed)?)
+    let Some(body) = read_deed(step.node.alloc, &deed)? else {
+        return Err(TurnFault::NotAllowed);
+    };
+    if !has_nodes(step.node.alloc, script, &body)? {
+        return Err(TurnFault::NotAllowed);
+    }
+    Ok(come_back(step, script, deed, body)?)
 }
 
 /// The deed has come, and is kept. NotAllowed, with nothing changed, where its bytes spell no body that goes with its
-/// name; Memory, too, where its name is held already.
-fn receive(step: &mut Growing, deed: PackedDeed) -> Result<(), TurnFault>
+/// name, or who waits there has no node of the script; Memory, too, where its name is held already.
+fn receive(step: &mut Growing, script: &Script, deed: &PackedDeed) -> Result<(), TurnFault>
     requires fresh { IsFresh step.old }
-    ensures { Turns (option_map (receive_deed (node_of step.old.node) deed.name) (read_deed deed)) step.old step.new
-        result }
+    ensures { Turns (option_and_then (receive_deed script.now (node_of step.old.node) deed.now.name)
+        (read_deed deed.now)) step.old step.new result }
 {
-    if step.node.keep(deed)? {
-        Ok(())
-    } else {
-        Err(TurnFault::NotAllowed)
+    let Some(body) = read_deed(step.node.alloc, deed)? else {
+        return Err(TurnFault::NotAllowed);
+    };
+    if !has_nodes(step.node.alloc, script, &body)? {
+        return Err(TurnFault::NotAllowed);
     }
+    Ok(step.node.create(deed.name, body)?)
 }
 
 /// The Grant rule: the deed is kept.
-pub fn take_grant(step: &mut Growing, from: Node, deed: PackedDeed) -> Result<(), TurnFault>
+pub fn take_grant(
+    step: &mut Growing,
+    script: &Script,
+    from: Node,
+    deed: PackedDeed,
+) -> Result<(), TurnFault>
     requires fresh { IsFresh step.old }
-    ensures { Turns (take_grant (node_of step.old.node) from deed) step.old step.new result }
+    ensures { Turns (take_grant script.now (node_of step.old.node) from deed) step.old step.new result }
 {
     let name = deed.name;
     if !step.node.is_from_leader(from) || !is_new_here(&step.node, &name) {
         return Err(TurnFault::NotAllowed);
     }
-    receive(step, deed)
+    receive(step, script, &deed)
 }

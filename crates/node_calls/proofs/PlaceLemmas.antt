@@ -88,12 +88,12 @@ place-moves script c call reply reached =
 
 -- As the code has it: the parts of a caller in its fields.
 
-abbrev caller_of : ℕ → ℕ → ℕ → Vars → ℕ → Option Call → BlockCaller
-caller_of block line tried vars ticket under_way =
+abbrev caller_of : ℕ → ℕ → ℕ → Vars → ℕ → Option Call → Bool → BlockCaller
+caller_of block line tried vars ticket under_way noted =
     record {
       block = block;
       caller =
-          record { line = line; tried = tried; vars = vars; ticket = ticket; under_way = under_way };
+          record { line = line; tried = tried; vars = vars; ticket = ticket; under_way = under_way; noted = noted };
     }
 
 -- What is due, and what a child begins with, by the line that is reached.
@@ -130,14 +130,14 @@ dues_line script c line (Err e) there is = tt
 
 -- a call made from the written line at a caller's place is due, where no signal dooms the caller
 pub due-line : (script : Script) (c : BlockCaller) (block line tried ticket : ℕ) (vars : Vars) (under_way : Option Call)
-    (written : Line)
-    (doom : Option Sig) (r : Result Call Memory) → caller_of block line tried vars ticket under_way ≡ c
+    (noted : Bool) (written : Line)
+    (doom : Option Sig) (r : Result Call Memory) → caller_of block line tried vars ticket under_way noted ≡ c
     → HasLine script c → doom ≡ None
     → Some written ≡ slice_get (written_lines script block) line → IfOk r (λ call. call ≡ call_of written vars)
     → IfOk r (λ call. call_due script c doom ≡ Some call)
 unfolding Dues
-due-line script c block line tried ticket vars under_way written doom r view within is at called =
-    let was = caller_of block line tried vars ticket under_way
+due-line script c block line tried ticket vars under_way noted written doom r view within is at called =
+    let was = caller_of block line tried vars ticket under_way noted
     in let low : line < length (lines_of script block) = subst (HasLine script) (sym view) within
     in subst (λ (d : Option Sig). Dues script d r c) (sym is)
     (subst (Dues script None r) view
@@ -145,29 +145,32 @@ due-line script c block line tried ticket vars under_way written doom r view wit
 
 -- the call of a written line that names no variable is due as it is, where no signal dooms the caller
 pub due-as-written : (script : Script) (c : BlockCaller) (block line tried ticket : ℕ) (vars : Vars)
-    (under_way : Option Call) (written : Line) (call : Call) → caller_of block line tried vars ticket under_way ≡ c
-    → HasLine script c → Some written ≡ slice_get (written_lines script block) line → written.from ≡ None
+    (under_way : Option Call) (noted : Bool) (written : Line) (call : Call)
+    → caller_of block line tried vars ticket under_way noted ≡ c → HasLine script c
+    → Some written ≡ slice_get (written_lines script block) line → written.from ≡ None
     → call ≡ written.call → call_due script c None ≡ Some call
-due-as-written script c block line tried ticket vars under_way written call view within at unnamed is =
-    due-line script c block line tried ticket vars under_way written None (Ok call) view within refl at
+due-as-written script c block line tried ticket vars under_way noted written call view within at unnamed is =
+    due-line script c block line tried ticket vars under_way noted written None (Ok call) view within refl at
     (is ∙ sym (ap (call_from written.call vars) unnamed))
 
 -- the same where it is known to name none
 pub due-if-written : (script : Script) (c : BlockCaller) (block line tried ticket : ℕ) (vars : Vars)
-    (under_way : Option Call) (written : Line) (o : Option Call) → caller_of block line tried vars ticket under_way ≡ c
-    → HasLine script c → Some written ≡ slice_get (written_lines script block) line
+    (under_way : Option Call) (noted : Bool) (written : Line) (o : Option Call)
+    → caller_of block line tried vars ticket under_way noted ≡ c → HasLine script c
+    → Some written ≡ slice_get (written_lines script block) line
     → IfSome o (λ call. (written.from ≡ None) × (call ≡ written.call))
     → IfSome o (λ call. call_due script c None ≡ Some call)
-due-if-written script c block line tried ticket vars under_way written None view within at as_is = tt
-due-if-written script c block line tried ticket vars under_way written (Some call) view within at as_is =
-    due-as-written script c block line tried ticket vars under_way written call view within at as_is.0 as_is.1
+due-if-written script c block line tried ticket vars under_way noted written None view within at as_is = tt
+due-if-written script c block line tried ticket vars under_way noted written (Some call) view within at as_is =
+    due-as-written script c block line tried ticket vars under_way noted written call view within at as_is.0 as_is.1
 
 -- behind the written lines an exit with status 0 is due, where no signal dooms the caller
 pub due-end : (script : Script) (c : BlockCaller) (block line tried ticket : ℕ) (vars : Vars) (under_way : Option Call)
-    (doom : Option Sig) → caller_of block line tried vars ticket under_way ≡ c → HasLine script c → doom ≡ None
+    (noted : Bool) (doom : Option Sig) → caller_of block line tried vars ticket under_way noted ≡ c
+    → HasLine script c → doom ≡ None
     → None ≡ slice_get (written_lines script block) line → call_due script c doom ≡ Some (Exit 0)
-due-end script c block line tried ticket vars under_way doom view within is at =
-    let was = caller_of block line tried vars ticket under_way
+due-end script c block line tried ticket vars under_way noted doom view within is at =
+    let was = caller_of block line tried vars ticket under_way noted
     in let low : line < length (lines_of script block) = subst (HasLine script) (sym view) within
     in let due_then : due (place_of script was) ≡ Some (Exit 0) =
     due_with script was implied_exit (reached-implied script block line (sym at) low)
@@ -186,12 +189,12 @@ begins script c set tries (Err e) within terms is = tt
 
 -- a forked child begins with the caller's variables, the one that the line sets being 0
 pub begun-are : (script : Script) (c : BlockCaller) (block line tried ticket tries : ℕ) (vars : Vars) (set : Option ℕ)
-    (under_way : Option Call)
-    (r : Result Vars Memory) → caller_of block line tried vars ticket under_way ≡ c → HasLine script c
+    (under_way : Option Call) (noted : Bool)
+    (r : Result Vars Memory) → caller_of block line tried vars ticket under_way noted ≡ c → HasLine script c
     → IfSome (slice_get (lines_of script block) line) (λ l. (set ≡ l.set) × (tries ≡ l.tries))
     → IfOk r (λ zeroed. zeroed ≡ set_variable vars set 0) → IfOk r (λ zeroed. zeroed ≡ child_vars (place_of script c))
 unfolding Begins
-begun-are script c block line tried ticket tries vars set under_way r view within terms is =
-    let was = caller_of block line tried vars ticket under_way
+begun-are script c block line tried ticket tries vars set under_way noted r view within terms is =
+    let was = caller_of block line tried vars ticket under_way noted
     in let low : line < length (lines_of script block) = subst (HasLine script) (sym view) within
     in subst (Begins script r) view (begins script was set tries r low terms is)

@@ -1,5 +1,5 @@
 -- A process as a caller: its block of the script, where it is in the block, and its call under way.
-use Rattle.std.specs.Prelude.{ℕ, ◌<◌, Bool, true, ◌&&◌, [], ◌∷◌, length, Option, Some, nat_lt}
+use Rattle.std.specs.Prelude.{ℕ, ◌<◌, Bool, true, false, ◌&&◌, [], ◌∷◌, length, Option, Some, nat_lt}
 use Rattle.pico_base.specs.declared.call.Call.{Call}
 use Rattle.pico_base.specs.declared.script.Script.{Script}
 use Rattle.pico_base.specs.declared.reply.Reply.{Reply}
@@ -43,7 +43,8 @@ beginning block vars = record { block = block; caller = model.new_caller vars }
 
 -- A call is started. The count of calls stays at its greatest value.
 abbrev pub started : BlockCaller → Call → BlockCaller
-started c call = record c { caller = record c.caller { ticket = count_up c.caller.ticket; under_way = Some call } }
+started c call =
+    record c { caller = record c.caller { ticket = count_up c.caller.ticket; under_way = Some call; noted = false } }
 
 -- the call under way has this reply
 abbrev pub answered : Script → BlockCaller → Call → Reply → BlockCaller

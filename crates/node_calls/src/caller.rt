@@ -1,20 +1,23 @@
 //! What a node knows of its process's calls: the line, the tries made, the variables, and the call under way.
-ghost use Rattle.std.specs.Prelude.{◌≡◌, ◌↔◌, ◌+◌, ◌<◌, ◌&&◌, nat_lt, None, Some, IfOk, IfSome, OnOk, OnErr, IsSome, IsTrue};
-ghost use Rattle.std.specs.Option.{option_copied};
+ghost use Rattle.std.specs.Prelude.{◌≡◌, ◌↔◌, ◌+◌, ◌<◌, ◌&&◌, nat_lt, false, None, Some, IfOk, IfSome, OnOk, OnErr, IsSome, IsTrue};
+ghost use Rattle.std.specs.Option.{option_and_then, option_copied};
 ghost use Rattle.kernel_model.specs.Script.{IsSoundScript};
 ghost use Rattle.kernel_model.specs.Fitting.{asks_again, child_vars, set_variable, value_in};
 ghost use Rattle.kernel_model.specs.Signals.{count_up};
+ghost use Rattle.node_model.specs.Caller.{if_it_waits, note_cancel, to_cancel};
 ghost use Rattle.node_calls.specs.Caller.{BlockCaller, HasLine, are_rising, answered, beginning, call_due, place_of, started};
 
 use crate::lines::{Terms, as_written, count, terms_at, written_line};
 use crate::replies::{tries_again, value_in};
 use crate::variables::Variables;
+use crate::waits::may_park;
 use pico_base::{Call, Memory, Node, Reply, Script, Sig, Vars};
 use std::alloc::Global;
 use std::marker::Model;
 
 /// Where a process is in its block: the lines passed, how often the next one was tried, the variables, how many calls
-/// it has started, and the call under way, from its start until its reply is here.
+/// it has started, the call under way, from its start until its reply is here, and whether a signal has interrupted it
+/// already.
 #[derive(Debug, Drop)]
 pub struct Caller {
     alloc: Global,
@@ -24,6 +27,7 @@ pub struct Caller {
     variables: Variables,
     ticket: u32,
     under_way: Option<Call>,
+    noted: bool,
 }
 
 impl Model for Caller {
@@ -33,9 +37,25 @@ impl Model for Caller {
 
     ghost view = { λ c. record {
       block = c.block;
-      caller =
-          record { line = c.line; tried = c.tried; vars = c.variables; ticket = c.ticket; under_way = c.under_way };
+      caller = record {
+        line = c.line;
+        tried = c.tried;
+        vars = c.variables;
+        ticket = c.ticket;
+        under_way = c.under_way;
+        noted = c.noted;
+      };
     } };
+}
+
+/// The call, where it may have to wait.
+fn if_it_waits(call: Option<&Call>) -> Option<&Call>
+    ensures { option_copied result ≡ option_and_then if_it_waits (option_copied call.entry) }
+{
+    match call {
+        Some(call) if may_park(call) => Some(call),
+        _ => None,
+    }
 }
 
 impl Caller {
@@ -52,6 +72,7 @@ impl Caller {
             variables: Variables::new(vars),
             ticket: 0,
             under_way: None,
+            noted: false,
         }
     }
 
@@ -144,13 +165,14 @@ impl Caller {
         Ok(())
     }
 
-    /// One more call is started. The count stays at 4294967295.
+    /// One more call is started, which no signal has interrupted. The count stays at 4294967295.
     fn count(&mut self)
         ensures { self.new ≡ record self.old {
-          caller = record self.old.caller { ticket = count_up self.old.caller.ticket };
+          caller = record self.old.caller { ticket = count_up self.old.caller.ticket; noted = false };
         } }
     {
         self.ticket = self.ticket.saturating_add(1);
+        self.noted = false;
     }
 
     /// The line is due once more after this reply to its call, or its variable is set and the next line is due.
@@ -210,6 +232,24 @@ impl Caller {
         ensures { option_copied result ≡ self.now.caller.under_way }
     {
         self.under_way.as_ref()
+    }
+
+    /// The call that a signal interrupts: the one under way, where it may have to wait and none has interrupted it so
+    /// far. It takes no memory.
+    pub fn to_cancel(&self) -> Option<&Call>
+        ensures { option_copied result ≡ to_cancel self.now.caller }
+    {
+        if self.noted {
+            return None;
+        }
+        if_it_waits(self.under_way.as_ref())
+    }
+
+    /// A signal has interrupted the call under way, so that each call is withdrawn once.
+    pub fn note_cancel(&mut self)
+        ensures { self.new ≡ record self.old { caller = note_cancel self.old.caller } }
+    {
+        self.noted = true;
     }
 
     /// The ticket of the call that was started last, 0 before the first one.

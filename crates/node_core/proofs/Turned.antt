@@ -49,10 +49,10 @@ turn_behind : (script : Script) (n m : Node) (input : Input) (before after : Tur
     → IsTurnOnto script (Some n) input (Some m) before after
 turn_behind script n m input before after None is onto = absurd onto
 turn_behind script n m input before after (Some s) is onto =
-    let left : Node → Option Step = λ at. Some (record { node = at; entries = s.entries; sends = s.sends }) in
+    let left : Node → Option Step = λ at. Some (record s { node = at }) in
     record {
       turn = record { entries = s.entries; sends = s.sends };
-      taken = is ∙ ap left (sym onto.node);
+      taken = (s.strikes, is ∙ ap left (sym onto.node));
       entries = onto.entries;
       sends = onto.sends;
     }

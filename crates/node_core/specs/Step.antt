@@ -1,5 +1,5 @@
 -- The node's part of the machine, by input.
-use Rattle.std.specs.Prelude.{◌≡◌, ◌++◌, Option, Some, None, Result, Ok, Err}
+use Rattle.std.specs.Prelude.{◌≡◌, ◌++◌, Bool, Option, Some, None, Result, Ok, Err}
 use Rattle.pico_base.specs.declared.script.Script.{Script}
 use Rattle.world_model.specs.Node.{Node}
 use Rattle.world_model.specs.Step.{Step}
@@ -16,9 +16,9 @@ unfoldable pub step_of : Script → Node → Input → Option Step
 step_of script n Run = run script n
 step_of script n (Take from frame) = take_frame script n from frame
 
--- a turn that left this node, as a step
-abbrev pub step_as : Node → Turn → Step
-step_as n turn = record { node = n; entries = turn.entries; sends = turn.sends }
+-- a turn that left this node, as a step; a strike is over with the step, and only the step shows it
+abbrev pub step_as : Node → Turn → Bool → Step
+step_as n turn strikes = record { node = n; entries = turn.entries; sends = turn.sends; strikes = strikes }
 
 -- The step leaves this node, and what it makes follows behind what was made before.
 pub record IsOnto (step : Step) (new : Node) (before after : Turn) : Type 0 where

@@ -1,5 +1,5 @@
 -- What a turn's answer says of a node that may be spent, before and after it.
-use Rattle.std.specs.Prelude.{◌≡◌, ◌++◌, Option, Some, None, Result, Err, IfOk, IfSome, IsErr, IsSome}
+use Rattle.std.specs.Prelude.{◌≡◌, ◌++◌, Bool, Option, Some, None, Result, Err, IfOk, IfSome, IsErr, IsSome}
 use Rattle.pico_base.specs.declared.script.Script.{Script}
 use Rattle.world_model.specs.Node.{Node}
 use Rattle.node_core.specs.declared.turn.Input.{Input}
@@ -12,7 +12,7 @@ use Rattle.node_core.specs.Step.{step_of, step_as}
 abbrev pub IsTurn : Script → Option Node → Input → Option Node → Turn → Type 0
 IsTurn script None input new turn = ⊥
 IsTurn script (Some n) input None turn = ⊥
-IsTurn script (Some n) input (Some m) turn = step_of script n input ≡ Some (step_as m turn)
+IsTurn script (Some n) input (Some m) turn = (strikes : Bool) × (step_of script n input ≡ Some (step_as m turn strikes))
 
 -- the same, where what the turn makes follows behind what was made before
 pub record IsTurnOnto (script : Script) (old : Option Node) (input : Input) (new : Option Node) (before after : Turn)

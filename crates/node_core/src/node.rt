@@ -2,6 +2,7 @@
 ghost use Rattle.std.specs.Prelude.{◌≡◌, ◌≤◌, length, Some, None, Err, IfOk, IfSome, IsErr, IsSome};
 ghost use Rattle.kernel_model.specs.Script.{IsSoundScript};
 ghost use Rattle.world_model.specs.Node.{opening_node, can_run, is_born};
+ghost use Rattle.world_model.specs.Run.{has_call_under_way};
 ghost use Rattle.node_state.specs.declared.fault.TurnFault.TheVariants.{Memory as OutOfMemory, NotAllowed};
 ghost use Rattle.node_core.specs.Lives.{has_left};
 ghost use Rattle.node_core.specs.Step.{step_of};
@@ -67,6 +68,18 @@ impl PicoNode {
     {
         match &self.state {
             Some(node) => node.is_born(),
+            None => false,
+        }
+    }
+
+    /// Whether its process lives, with a call under way: one that was started, and has no reply yet. It takes no
+    /// memory.
+    pub fn has_call_under_way(&self) -> bool
+        requires whole { IsSome self.now }
+        ensures { IfSome self.now (λ n. result ≡ has_call_under_way n) }
+    {
+        match &self.state {
+            Some(node) => node.has_call_under_way(),
             None => false,
         }
     }

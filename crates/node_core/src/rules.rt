@@ -1,6 +1,6 @@
 //! A frame is taken where it may come, by the rule of its kind.
 ghost use Rattle.kernel_model.specs.Script.{IsSoundScript};
-ghost use Rattle.world_model.specs.Turn.{take_by_kind, take_frame};
+ghost use Rattle.world_model.specs.Turn.{take_by_kind, take_by_rules, take_frame};
 ghost use Rattle.node_state.specs.State.{node_of};
 ghost use Rattle.node_state.specs.Turning.{IsFresh, Turns};
 
@@ -13,7 +13,7 @@ use move_rules::{
 use node_state::{Growing, TurnFault};
 use number_rules::{take_lease, take_lease_ask, take_placed};
 use pico_base::{Node, Script};
-use route_rules::{take_ask, take_bounce, take_forward, take_request};
+use route_rules::{strike, take_ask, take_bounce, take_cancel, take_forward, take_request};
 use rpc_frame::Frame;
 use start_rules::{take_answer, take_not_owner};
 
@@ -31,7 +31,23 @@ pub(crate) fn take_frame(
     if !may_come(&step.node, from, &frame) {
         return Err(TurnFault::NotAllowed);
     }
-    take_by_kind(step, script, from, frame)
+    take_by_rules(step, script, from, frame)
+}
+
+/// The rule of a frame's kind, and last of all the strike: a signal interrupts a call that waits. What a process starts
+/// itself needs none.
+fn take_by_rules(
+    step: &mut Growing,
+    script: &Script,
+    from: Node,
+    frame: Frame,
+) -> Result<(), TurnFault>
+    requires fresh { IsFresh step.old }
+    requires sound { IsSoundScript script.now }
+    ensures { Turns (take_by_rules script.now (node_of step.old.node) from frame) step.old step.new result }
+{
+    take_by_kind(step, script, from, frame)?;
+    Ok(strike(step, script)?)
 }
 
 /// The rule of a frame's kind.
@@ -64,7 +80,7 @@ fn take_by_kind(
         Frame::Suggest { name, node } => take_suggest(step, script, from, name, node),
         Frame::Recall { name } => take_recall(step, from, name),
         Frame::GiveBack { deed } => take_give_back(step, script, from, deed),
-        Frame::Grant { deed } => take_grant(step, from, deed),
+        Frame::Grant { deed } => take_grant(step, script, from, deed),
         Frame::Leaving {
             pid,
             parent,
@@ -72,6 +88,7 @@ fn take_by_kind(
         } => take_leaving(step, script, from, pid, parent, parent_node),
         Frame::RecallAll => take_recall_all(step, from),
         Frame::Left { parcel } => take_left(step, script, from, parcel),
-        Frame::ExitTo { parcel } => take_exit(step, from, parcel),
+        Frame::ExitTo { parcel } => take_exit(step, script, from, parcel),
+        Frame::Cancel { asked } => take_cancel(step, script, asked),
     }
 }

@@ -2,6 +2,7 @@
 ghost use Rattle.std.specs.Prelude.{◌≡◌, ◌++◌, [], Err, IfOk, OnOk};
 ghost use Rattle.kernel_model.specs.Script.{IsSoundScript};
 ghost use Rattle.world_model.specs.Node.{opening_node, can_run, is_born};
+ghost use Rattle.world_model.specs.Run.{has_call_under_way};
 ghost use Rattle.node_state.specs.State.{node_of, step_of as steps_of};
 ghost use Rattle.node_state.specs.Turning.{IsFresh};
 ghost use Rattle.node_state.specs.declared.fault.TurnFault.TheVariants.{Memory as OutOfMemory};
@@ -70,6 +71,7 @@ fn hand_over(step: &mut Growing, made: &mut Turn) -> Result<(), Memory>
     ensures handed { OnOk result (IsOnto (steps_of step.old) (node_of step.new.node) made.old made.new) }
 {
     move_behind(step.entries.as_mut_vec(), made.entries.as_mut_vec())?;
+    step.strikes = false;
     move_behind(step.sends.as_mut_vec(), made.sends.as_mut_vec())
 }
 
@@ -113,6 +115,7 @@ fn drop_done(step: &mut Growing, alloc: Global)
 {
     step.entries = Entries::new(alloc);
     step.sends = Sends::new(alloc);
+    step.strikes = false;
 }
 
 /// The turn is over, and the next one may begin: after a refusal for want of memory, what was done is dropped.
@@ -141,6 +144,7 @@ impl Unspent {
                 node: State::new(alloc, number)?,
                 entries: Entries::new(alloc),
                 sends: Sends::new(alloc),
+                strikes: false,
             },
         })
     }
@@ -157,6 +161,13 @@ impl Unspent {
         ensures { result ≡ is_born self.now }
     {
         self.step.node.is_born()
+    }
+
+    /// Whether its process lives, with a call under way.
+    pub(crate) fn has_call_under_way(&self) -> bool
+        ensures { result ≡ has_call_under_way self.now }
+    {
+        matches!(self.step.node.stage, Stage::Living) && self.step.node.caller.under_way().is_some()
     }
 
     /// Whether its process has ended and it has handed over what it held.

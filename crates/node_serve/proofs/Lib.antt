@@ -1,8 +1,14 @@
+pub mod AtOnce
 pub mod BodyLemmas
+pub mod Commits
+pub mod Defined
+pub mod InKernel
 pub mod KernelLemmas
 pub mod Parcels
 pub mod Reading
 pub mod ReadTaken
 pub mod ServingLemmas
 pub mod Taken
-mod Told
+pub mod Waking
+pub mod WhoReads
+pub mod Withdrawals

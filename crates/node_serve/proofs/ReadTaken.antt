@@ -25,9 +25,9 @@ use Rattle.fork_wait.specs.Spelling.{ending_bytes, family_bytes, HasBytes as Has
 use Rattle.fork_wait.specs.Reading.{ending_from, family_at}
 use Rattle.fork_wait.proofs.Bodies.{are-found}
 use Rattle.sysv_msg.specs.Reading.{queue_at}
-use Rattle.sysv_msg.proofs.Bodies.{queue_takes}
+use Rattle.sysv_msg.proofs.Bodies.{body-takes}
 use Rattle.sysv_sem.specs.Reading.{set_at}
-use Rattle.sysv_sem.proofs.Semaphores.{set_takes}
+use Rattle.sysv_sem.proofs.Bodies.{set_takes}
 use Rattle.kernel_model.specs.Signals.{Signals, discards}
 use Rattle.kernel_model.specs.Queue as kernel_queue
 use Rattle.kernel_model.specs.SemaphoreSet.{SemaphoreSet}
@@ -289,7 +289,7 @@ queue-by id code bytes body false fits six read =
       held = Queue m.value;
       is = m.same;
       goes = refl;
-      spelled = queue_takes (code ∷ bytes) m.value fits m.is;
+      spelled = body-takes (code ∷ bytes) m.value fits m.is;
     }
 
 set-by : (id code : ℕ) (bytes : List ℕ) (body : model.Body) (a : Bool) → IsBytes (code ∷ bytes) → (code == 6) ≡ a

@@ -21,7 +21,7 @@ use Rattle.sysv_msg.specs.Reading.{queue_at}
 use Rattle.sysv_msg.proofs.Bodies as queue_laws
 use Rattle.sysv_sem.specs.Body as sets
 use Rattle.sysv_sem.specs.Reading.{set_at}
-use Rattle.sysv_sem.proofs.Semaphores as set_laws
+use Rattle.sysv_sem.proofs.Bodies as set_laws
 use Rattle.rpc_frame.specs.declared.deed.PackedDeed.{PackedDeed}
 use Rattle.kernel_model.specs.Signals.{Signals}
 use Rattle.kernel_model.specs.Row.{Family}
@@ -115,7 +115,7 @@ queue-read : (id : ℕ) (body : Body) (bytes : List ℕ) → suits body (Msg id)
 unfolding read_body read_queue
 queue-read id (Queue queue) bytes fits is =
     ap (read_body (Msg id)) is.spelled
-    ∙ ap (option_map model.AQueue) (sym (ap queue_at is.spelled) ∙ queue_laws.queue_again queue bytes is)
+    ∙ ap (option_map model.AQueue) (sym (ap queue_at is.spelled) ∙ queue_laws.body-again bytes queue is)
 queue-read id Removed bytes fits is = ap (read_body (Msg id)) is
 queue-read id body bytes fits is = absurd (cc)
 
@@ -124,7 +124,7 @@ set-read : (id : ℕ) (body : Body) (bytes : List ℕ) → suits body (Sem id) �
 unfolding read_body read_set
 set-read id (Set set) bytes fits is =
     ap (read_body (Sem id)) is.spelled
-    ∙ ap (option_map model.ASet) (sym (ap set_at is.spelled) ∙ set_laws.set_again set bytes is)
+    ∙ ap (option_map model.ASet) (sym (ap set_at is.spelled) ∙ set_laws.set_again bytes set is)
 set-read id Removed bytes fits is = ap (read_body (Sem id)) is
 set-read id body bytes fits is = absurd (cc)
 

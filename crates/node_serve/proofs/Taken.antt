@@ -1,4 +1,4 @@
--- The deeds once a parcel is taken are those of the definition of an exit that is carried out, and the kernel's.
+-- The deeds once a parcel is taken, by number.
 use Rattle.std.proofs.Common.{◌≡◌, ◌∙◌, ℕ, Bool, true, false, not, ◌&&◌, ◌||◌, nat_eq, List, [], ◌∷◌, ◌++◌, map, fold, Option, Some, None, Result, Ok, Err, IfOk, OnOk, is_some, refl, sym, ap, subst, arith}
 use Rattle.std.specs.Prelude.{if◌then◌else◌}
 use Rattle.std.specs.List.{list_any, IsDistinct}
@@ -6,37 +6,27 @@ use Rattle.std.specs.Option.{option_and_then, option_map}
 use Rattle.pico_base.specs.declared.numbers.Name.{Name}
 use Rattle.pico_base.specs.declared.numbers.Name.TheVariants.{Proc}
 use Rattle.pico_base.specs.declared.reply.Ending.{Ending as Ends}
-use Rattle.pico_base.specs.declared.reply.Outcome.{Outcome}
-use Rattle.pico_base.specs.declared.reply.Reply.TheVariants as replies
 use Rattle.rpc_frame.specs.declared.deed.PackedDeed.{PackedDeed}
 use Rattle.rpc_frame.specs.declared.deed.Parcel.{Parcel}
 use Rattle.number_maps.specs.Maps.{Numbered, get, put, is_used}
 use Rattle.number_maps.proofs.Changes.{put-put}
 use Rattle.number_maps.proofs.LookUps.{get-put-same, get-put-apart}
 use Rattle.number_maps.proofs.Order.{eq-same, same-from-nat_eq}
-use Rattle.kernel_model.specs.Kernel.{Kernel}
-use Rattle.kernel_model.specs.Effect.{reply_alone}
 use Rattle.kernel_model.specs.Row.{ignores_children, lists}
 use Rattle.kernel_model.specs.Row as kernel
 use Rattle.kernel_model.specs.ProcessCalls.{process_after_end}
-use Rattle.kernel_model.specs.Transition.{successor, transition}
-use Rattle.kernel_model.specs.Valid.{IsValid}
 use Rattle.node_model.specs.Kinds.{Named, get_named, is_same_name, number_of, put_all, put_named}
 use Rattle.node_model.specs.Bodies as model
-use Rattle.node_model.specs.Parcels as definition
-use Rattle.node_model.specs.Parcels.{all_gone, ending_of, fits_bodies, fits_if, fitting_bodies, kernel_after_end, lets_end, names_after_end, read_deeds}
-use Rattle.node_model.specs.Serving.{parts_in}
+use Rattle.node_model.specs.Parcels.{ending_of, fitting_bodies, lets_end}
 use Rattle.deed_box.specs.Deeds.{AreAbsent}
 use Rattle.deed_box.specs.Packing.{names_of}
-use Rattle.serve_laws.specs.Ends.{AgreesOnEnd, IsEnded}
 use Rattle.serve_laws.proofs.Puts.{put_each, put-apart, each-in, each-apart, neither}
-use Rattle.serve_laws.proofs.Committed.{committed, kept_under, processes_after}
-use Rattle.serve_laws.proofs.Ends.{ends-are-the-kernels}
+use Rattle.serve_laws.proofs.Committed.{kept_under, processes_after}
 use Rattle.node_serve.specs.declared.body.Row.{Row}
 use Rattle.node_serve.specs.declared.body.Body.{Body}
 use Rattle.node_serve.specs.declared.body.Body.TheVariants.{Living, Ended, Gone, Queue, Set, Removed}
 use Rattle.node_serve.specs.Bodies.{bodies_of, body_of, numbered_of, row_of}
-use Rattle.node_serve.specs.Ending.{Commits, EndsAsInKernels, Notes, NotesEnd, Takes, child_after, fits_as_read, gone_held, keeps, kept_as, lets, lists_child, parent_after, replace_held}
+use Rattle.node_serve.specs.Ending.{Notes, NotesEnd, Takes, child_after, fits_as_read, gone_held, keeps, kept_as, lets, lists_child, parent_after, replace_held, row_after}
 use Rattle.node_serve.proofs.KernelLemmas.{bodies-get, numbered-put}
 use Rattle.node_serve.proofs.Parcels.{AllKnown, Apart, FitsAsRead, Known, all-known, known-rise, numbered, numbers, parcel-fits, read-parts, rise-apart}
 
@@ -223,12 +213,6 @@ numbers-of : (ds : List (Name × Body)) → map (λ e. e.0) (numbered ds) ≡ nu
 numbers-of [] = refl
 numbers-of (d ∷ ds) = ap (λ (ns : List ℕ). number_of d.0 ∷ ns) (numbers-of ds)
 
-abbrev changes_of : Parcel → Numbered model.Body → model.Body → List (Name × model.Body)
-changes_of parcel bodies parent =
-    all_gone (map (λ e. e.0) bodies)
-    ++ parts_in (kernel_after_end parcel.pid parcel.parent parent (ending_of parcel.call))
-    (names_after_end parcel.pid parcel.parent parent)
-
 kept-same : (row : kernel.Row) (ending : Ends) → kept_as (ignores_children row) ending ≡ kept_under row ending
 kept-same row ending = by (ignores_children row)
   where
@@ -347,13 +331,9 @@ module _ (old new : Named Body) (parcel : Parcel) (t : Takes old parcel new)
       let n = t.notes.noted on
       in let was_is : n.was ≡ was = some_same n.was was (sym n.there ∙ parent-first)
       in let body_is : body_of n.was ≡ model.Living row = ap body_of was_is ∙ is
-      in let left : body_of n.left
-      ≡ model.Living (kernel.with_ended_child (model.free_to_act row) parcel.pid ending).row =
+      in let left : body_of n.left ≡ model.Living (row_after row parcel.pid ending) =
       n.notes ∙ ap (λ (b : model.Body). parent_after b parcel.pid ending) body_is
-      ∙ ap (λ (b : Bool).
-      if b
-      then model.Living (kernel.with_ended_child (model.free_to_act row) parcel.pid ending).row
-      else model.Living row) lists_it
+      ∙ ap (λ (b : Bool). if b then model.Living (row_after row parcel.pid ending) else model.Living row) lists_it
       in let kept : body_of t.kept ≡ kept_under row ending =
       n.turns ∙ ap (λ (b : model.Body). child_after b parcel.pid ending) body_is
       ∙ ap (λ (b : Bool). if b then kept_as (ignores_children row) ending else model.Gone) lists_it
@@ -390,75 +370,49 @@ module _ (old new : Named Body) (parcel : Parcel) (t : Takes old parcel new)
   stands (Set s) is lets_it = over (model.ASet s) (keeps-is (Set s) is)
   stands Removed is lets_it = over model.Removed (keeps-is Removed is)
 
--- A parcel that is taken where it may be is an exit that is carried out.
-pub takes-commits : (old new : Named Body) (parcel : Parcel)
+-- A parcel is taken where it may be, of a parent that isn't parked: the deeds are those of an exit that is carried out.
+pub record IsTaken (old : Named Body) (parcel : Parcel) (new : Named Body) : Type 0 where
+  pub bodies : Numbered model.Body
+  pub was : Body
+  pub fits : fitting_bodies (bodies_of old) parcel ≡ Some bodies
+  pub there : get old.processes parcel.parent ≡ Some was
+  pub lets_it : lets_end parcel.pid (body_of was) ≡ true
+  pub apart : nat_eq parcel.pid parcel.parent ≡ false
+  pub unused : is_used (map (λ e. e.0) bodies) parcel.parent ≡ false
+  pub after : bodies_of new
+      ≡ record (bodies_of old) {
+        processes = processes_after (numbered_of old.processes) (map (λ e. e.0) bodies) parcel.pid parcel.parent
+            (body_of was) (ending_of parcel.call);
+      }
+
+-- so it is for a parcel that fits as it is read, where the parent lets it end and none of its deeds is here
+pub takes-alone : (old new : Named Body) (parcel : Parcel)
     → lets parcel.pid (get_named old (Proc parcel.parent)) ≡ true
     → AreAbsent old (names_of parcel.deeds) → fits_as_read parcel ≡ true → Takes old parcel new
-    → Commits old parcel new
-takes-commits old new parcel lets_it absent fits t =
+    → IsTaken old parcel new
+takes-alone old new parcel lets_it absent fits t =
     let f = read-parts parcel fits
     in let p = parent-there parcel.pid (get_named old (Proc parcel.parent)) lets_it
     in let all = all-known parcel t.deeds parcel.deeds t.packed f.each
-    in let bodies : Numbered model.Body = numbered t.deeds
-    in let parent : model.Body = body_of p.was
     in let unused : is_used (numbers t.deeds) parcel.parent ≡ false =
     held-apart parcel old t.deeds parcel.deeds parcel.parent p.was all absent p.there
     in let used : is_used (numbers t.deeds) parcel.pid ≡ true = own-used parcel t.deeds parcel.deeds all f.own
     in let apart : Apart (numbers t.deeds) =
     rise-apart (numbers t.deeds) (known-rise parcel t.deeds parcel.deeds all f.rises)
-    in let made : definition.commit_exit parcel bodies parent ≡ Some (changes_of parcel bodies parent) =
-    ap (λ (b : Bool). if b then Some (changes_of parcel bodies parent) else None) p.lets_it
-    in let off : nat_eq parcel.pid parcel.parent ≡ false =
-    flip parcel.parent parcel.pid (differs old new parcel t all f apart p.was p.there unused used)
     in record {
-      bodies = bodies;
-      parent = parent;
-      changes = changes_of parcel bodies parent;
+      bodies = numbered t.deeds;
+      was = p.was;
       fits = parcel-fits parcel old t.deeds all absent f;
-      held = bodies-get old (Proc parcel.parent) ∙ ap (option_map body_of) p.there;
-      commits = made;
+      there = p.there;
+      lets_it = p.lets_it;
+      apart = flip parcel.parent parcel.pid (differs old new parcel t all f apart p.was p.there unused used);
+      unused = ap (λ (ns : List ℕ). is_used ns parcel.parent) (numbers-of t.deeds) ∙ unused;
       after = stands old new parcel t all f apart p.was p.there unused used p.was refl p.lets_it
-          ∙ sym (committed (bodies_of old) parcel bodies (changes_of parcel bodies parent) off parent made
           ∙ ap (λ (ns : List ℕ).
           record (bodies_of old) {
-            processes = processes_after (numbered_of old.processes) ns parcel.pid parcel.parent parent
+            processes = processes_after (numbered_of old.processes) ns parcel.pid parcel.parent (body_of p.was)
                 (ending_of parcel.call);
-          }) (numbers-of t.deeds));
-    }
-
--- ---- the kernel
-
-fits-there : (deeds : model.Deeds) (parcel : Parcel) (o : Option (Numbered model.Body)) (bodies : Numbered model.Body)
-    → option_and_then (fits_if deeds parcel) o ≡ Some bodies → fits_bodies deeds parcel bodies ≡ true
-fits-there deeds parcel None bodies h = absurd (cc)
-fits-there deeds parcel (Some read) bodies h = by (fits_bodies deeds parcel read) refl h
-  where
-    by : (b : Bool) → fits_bodies deeds parcel read ≡ b → (if b then Some read else None) ≡ Some bodies
-        → fits_bodies deeds parcel bodies ≡ true
-    by true is same =
-        subst (λ (m : Numbered model.Body). fits_bodies deeds parcel m ≡ true) (some_same read bodies same) is
-    by false is same = absurd (cc)
-
--- the deeds after a parcel's commit, and its reply, are those of the kernel's transition
-pub commits-as-the-kernel : (old new : Named Body) (parcel : Parcel) (outcome : Outcome)
-    → outcome ≡ reply_alone replies.Ended → Commits old parcel new → EndsAsInKernels old parcel new outcome
-commits-as-the-kernel old new parcel outcome alone c =
-    record {
-      ends = λ bodies k next n reached fits valid agrees gives.
-          let bodies_is : c.bodies ≡ bodies = some_same c.bodies bodies (sym c.fits ∙ fits)
-          in let parent_is : c.parent ≡ agrees.parent = some_same c.parent agrees.parent (sym c.held ∙ agrees.held)
-          in let made : definition.commit_exit parcel bodies agrees.parent ≡ Some c.changes =
-          subst (λ (m : Numbered model.Body). definition.commit_exit parcel m agrees.parent ≡ Some c.changes) bodies_is
-          (subst (λ (b : model.Body). definition.commit_exit parcel c.bodies b ≡ Some c.changes) parent_is c.commits)
-          in let ended : IsEnded k (bodies_of old) parcel bodies agrees.row (put_all (bodies_of old) c.changes) next
-          reached =
-          ends-are-the-kernels k (bodies_of old) parcel bodies c.changes n next reached valid
-          (fits-there (bodies_of old) parcel (read_deeds parcel.deeds) bodies fits) agrees made gives
-          in (
-            subst (λ (d : model.Deeds). IsEnded k (bodies_of old) parcel bodies agrees.row d next reached)
-                (sym c.after) ended,
-            alone ∙ sym ended.alone,
-          );
+          }) (sym (numbers-of t.deeds));
     }
 
 -- what holds of an answer that was handed on

@@ -15,11 +15,12 @@ use Rattle.fork_wait.proofs.Bodies.{bytes_again}
 use Rattle.sysv_msg.specs.Body as queues
 use Rattle.sysv_msg.proofs.Bodies as queue_laws
 use Rattle.sysv_sem.specs.Body as sets
-use Rattle.sysv_sem.proofs.Semaphores as set_laws
+use Rattle.sysv_sem.proofs.Bodies as set_laws
 use Rattle.kernel_model.specs.Signals.{Signals}
 use Rattle.kernel_model.specs.Row.{Family}
 use Rattle.kernel_model.specs.Queue as kernel
 use Rattle.kernel_model.specs.SemaphoreSet.{SemaphoreSet}
+use Rattle.waiting_model.specs.Waiters.{Awaited}
 use Rattle.node_serve.specs.declared.body.Row.{Row}
 use Rattle.node_serve.specs.declared.body.Body.{Body}
 use Rattle.node_serve.specs.declared.body.Body.TheVariants.{Living, Ended, Gone, Queue, Set, Removed}
@@ -115,11 +116,11 @@ one_ending (Killed g) (Killed h) same =
     killed_by None = None
     killed_by (Some g) = Some (Killed g)
 
-one_queue : (p q : kernel.Queue) (bytes : List ℕ) → queues.IsBodyOf p bytes → queues.IsBodyOf q bytes → p ≡ q
-one_queue p q bytes a b = some_is p q (sym (queue_laws.queue_again p bytes a) ∙ queue_laws.queue_again q bytes b)
+one_queue : (p q : Awaited kernel.Queue) (bytes : List ℕ) → queues.IsBodyOf p bytes → queues.IsBodyOf q bytes → p ≡ q
+one_queue p q bytes a b = queue_laws.one-queue bytes p q (queue_laws.body-again bytes p a) b
 
-one_set : (p q : SemaphoreSet) (bytes : List ℕ) → sets.IsBodyOf p bytes → sets.IsBodyOf q bytes → p ≡ q
-one_set p q bytes a b = some_is p q (sym (set_laws.set_again p bytes a) ∙ set_laws.set_again q bytes b)
+one_set : (p q : Awaited SemaphoreSet) (bytes : List ℕ) → sets.IsBodyOf p bytes → sets.IsBodyOf q bytes → p ≡ q
+one_set p q bytes a b = set_laws.one_set bytes p q a b
 
 -- ---- by the kind of name
 

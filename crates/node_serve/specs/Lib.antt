@@ -1,7 +1,9 @@
 pub mod Bodies
+pub mod Callers
 pub mod Ending
 pub mod Laws
 pub mod Read
 pub mod Serving
 pub mod Spelled
 pub mod Waits
+pub mod Withdrawing

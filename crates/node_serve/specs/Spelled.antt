@@ -1,5 +1,5 @@
 -- The bytes of bodies (profile): a code for the kind, and its fields.
-use Rattle.std.specs.Prelude.{◌≡◌, ℕ, ◌<◌, Bool, true, false, IsTrue, List, [], ◌∷◌, ◌++◌}
+use Rattle.std.specs.Prelude.{◌≡◌, ℕ, ◌<◌, Bool, List, [], ◌∷◌, ◌++◌}
 use Rattle.pico_base.specs.declared.numbers.Name.{Name}
 use Rattle.pico_base.specs.declared.reply.Ending.{Ending}
 use Rattle.pico_base.specs.declared.reply.Ending.TheVariants.{Exited, Killed}
@@ -37,14 +37,3 @@ IsSpelled Removed bytes = bytes ≡ 6 ∷ []
 -- the kinds of bodies that go with a name
 abbrev pub suits : Body → Name → Bool
 suits body name = fits_name name (body_of body)
-
--- some body that goes with the name has the bytes
-pub record IsBody (name : Name) (bytes : List ℕ) : Type 0 where
-  pub body : Body
-  pub goes : IsTrue (suits body name)
-  pub spelled : IsSpelled body bytes
-
--- one has, or none has
-abbrev pub TellsBody : Name → List ℕ → Bool → Type 0
-TellsBody name bytes true = IsBody name bytes
-TellsBody name bytes false = (body : Body) → IsTrue (suits body name) → IsSpelled body bytes → ⊥

@@ -13,9 +13,10 @@ pub struct Row {
     pub family: Family,
 }
 
-/// What a deed carries: the state of a process, a message queue or a semaphore set. A process lives, has ended and
-/// isn't waited for yet, or is gone. A queue or a set that was removed is never found again.
-#[derive(Debug, Drop)]
+/// What a deed carries: the state of a process, or a message queue or a semaphore set with those who wait there. A
+/// process lives, has ended and isn't waited for yet, or is gone. A queue or a set that was removed is never found
+/// again.
+#[derive(Drop)]
 pub enum Body {
     Living(Row),
     Ended(Ending),

@@ -1,13 +1,23 @@
 //! A call is carried out on a body.
-ghost use Rattle.std.specs.Prelude.{◌≡◌, IfOk, OnErr};
+ghost use Rattle.std.specs.Prelude.{◌≡◌, IfOk, IsTrue, OnErr};
+ghost use Rattle.node_model.specs.Awaiting.{on_whole};
+ghost use Rattle.node_model.specs.Carrying.{is_own, is_removal};
+ghost use Rattle.node_model.specs.Serving.{admits, has_read_if, takes_away};
 ghost use Rattle.node_serve.specs.Bodies.{body_of};
-ghost use Rattle.node_model.specs.Carrying.{done, is_own, is_removal, on_body};
+ghost use Rattle.node_serve.specs.Callers.{waiting_with};
+ghost use Rattle.node_serve.specs.Serving.{ComesTo, SayWhoReads, has_room};
+ghost use Rattle.node_serve.specs.Waits.{alone, coming};
+ghost use Rattle.std.specs.List.{list_any};
 
-use crate::Body;
 use crate::queues::on_queue;
 use crate::rows::on_row;
 use crate::sets::on_set;
-use pico_base::{Call, Errno, Home, Memory, Name, Pid, Reply, home};
+use crate::waiting::{alone, at_once};
+use crate::{Body, Readers, Served, Who};
+use pico_base::{Call, Errno, Home, Memory, Name, Pid, Reply, SemStep, home};
+use std::alloc::Global;
+use waiter_fields::MAX_WAITERS;
+use waiting_model::Applied;
 
 /// Whether the call is the caller's own affair.
 fn is_own(caller: Pid, call: &Call) -> bool
@@ -23,64 +33,171 @@ fn is_removal(call: &Call) -> bool
     matches!(call, Call::MsgRmid { .. } | Call::SemRmid { .. })
 }
 
-/// A call on the body of a process.
-fn on_process(body: &mut Body, pid: Pid, caller: Pid, call: &Call) -> Reply
-    ensures { on_body (Name.Proc pid) (body_of body.old) caller call.now ≡ done (body_of body.new) result }
+/// Whether fewer wait than there is room for, and this process isn't one of them.
+fn has_room(body: &Body, pid: Pid) -> bool
+    ensures { result ≡ has_room (body_of body.now) pid }
 {
     match body {
-        Body::Living(row) => on_row(row, caller, call),
-        Body::Ended(_) if is_own(caller, call) => Reply::Fail(Errno::Esrch),
-        Body::Ended(_) => Reply::Num(0),
-        _ => Reply::Fail(Errno::Esrch),
+        Body::Queue(queue) => queue.waiting() < MAX_WAITERS as u32 && !queue.waits(pid),
+        Body::Set(set) => set.waiting() < MAX_WAITERS as u32 && !set.waits(pid),
+        _ => true,
+    }
+}
+
+/// Whether the call can be served on the body, also where it may have to wait. A removal always can.
+fn admits(body: &Body, who: &Who, call: &Call) -> bool
+    ensures { result ≡ admits (body_of body.now) (waiting_with who.now call.now) }
+{
+    is_removal(call) || has_room(body, who.pid)
+}
+
+/// Which of those who wait at the body read once they go on.
+fn who_reads(alloc: Global, body: &Body) -> Result<Readers, Memory>
+    ensures { IfOk result (SayWhoReads (body_of body.now)) }
+{
+    match body {
+        Body::Queue(queue) => {
+            queue.is_at_rest();
+            Ok(Readers::OfMessages(queue.receivers()?))
+        }
+        Body::Set(set) => {
+            set.is_at_rest();
+            Ok(Readers::OfSemaphores(set.takers()?))
+        }
+        _ => Ok(Readers::OfMessages(Vec::new(alloc))),
+    }
+}
+
+/// Whether an operation takes from its semaphore.
+fn takes_away(steps: &[SemStep]) -> bool
+    ensures { result ≡ list_any takes_away steps.now }
+{
+    steps.iter().any(|step| step.add < 0)
+}
+
+/// Whether the call read: a receive that gave a message, or a `semop` that took from a semaphore. One that has to wait
+/// has read nothing as yet.
+fn has_read(call: &Call, own: &Option<Reply>) -> bool
+    ensures { result ≡ has_read_if call.now own.now }
+{
+    match (call, own) {
+        (Call::MsgRcv { .. }, Some(Reply::Message { .. })) => true,
+        (Call::SemOp { steps, .. }, Some(Reply::Num(_))) => takes_away(steps.as_slice()),
+        _ => false,
+    }
+}
+
+/// A call on the body of a process. None: its caller has to wait.
+fn on_process(body: &mut Body, pid: Pid, who: &Who, call: &Call) -> Option<Reply>
+    ensures { on_whole (Name.Proc pid) (body_of body.old) (waiting_with who.now call.now)
+        ≡ alone (body_of body.new) result }
+{
+    match body {
+        Body::Living(row) => on_row(row, who.pid, call),
+        Body::Ended(_) if is_own(who.pid, call) => Some(Reply::Fail(Errno::Esrch)),
+        Body::Ended(_) => Some(Reply::Num(0)),
+        _ => Some(Reply::Fail(Errno::Esrch)),
     }
 }
 
 /// A call on the body of a queue. A refusal for want of memory changes nothing.
-fn on_queue_body(body: &mut Body, id: u32, caller: Pid, call: &Call) -> Result<Reply, Memory>
-    ensures ok { IfOk result
-        (λ reply. on_body (Name.Msg id) (body_of body.old) caller call.now ≡ done (body_of body.new) reply) }
+fn on_queue_body(
+    alloc: Global,
+    body: &mut Body,
+    id: u32,
+    who: &Who,
+    call: &Call,
+) -> Result<Applied, Memory>
+    requires { IsTrue (admits (body_of body.old) (waiting_with who.now call.now)) }
+    ensures ok { IfOk result (λ applied.
+        on_whole (Name.Msg id) (body_of body.old) (waiting_with who.now call.now)
+        ≡ coming (body_of body.new) applied) }
     ensures err { OnErr result (body.new ≡ body.old) }
 {
     match body {
-        Body::Queue(_) if is_removal(call) => {
+        Body::Queue(queue) if is_removal(call) => {
+            let wakes = queue.remove()?;
             *body = Body::Removed;
-            Ok(Reply::Num(0))
+            Ok(Applied {
+                own: Some(Reply::Num(0)),
+                wakes,
+            })
         }
-        Body::Queue(queue) => on_queue(queue, caller, call),
-        _ => Ok(Reply::Fail(Errno::Einval)),
+        Body::Queue(queue) => on_queue(alloc, queue, who, call),
+        _ => Ok(at_once(alloc, Reply::Fail(Errno::Einval))),
     }
 }
 
 /// A call on the body of a set. A refusal for want of memory changes nothing.
-fn on_set_body(body: &mut Body, id: u32, caller: Pid, call: &Call) -> Result<Reply, Memory>
-    ensures ok { IfOk result
-        (λ reply. on_body (Name.Sem id) (body_of body.old) caller call.now ≡ done (body_of body.new) reply) }
+fn on_set_body(
+    alloc: Global,
+    body: &mut Body,
+    id: u32,
+    who: &Who,
+    call: &Call,
+) -> Result<Applied, Memory>
+    requires { IsTrue (admits (body_of body.old) (waiting_with who.now call.now)) }
+    ensures ok { IfOk result (λ applied.
+        on_whole (Name.Sem id) (body_of body.old) (waiting_with who.now call.now)
+        ≡ coming (body_of body.new) applied) }
     ensures err { OnErr result (body.new ≡ body.old) }
 {
     match body {
-        Body::Set(_) if is_removal(call) => {
+        Body::Set(set) if is_removal(call) => {
+            let wakes = set.remove()?;
             *body = Body::Removed;
-            Ok(Reply::Num(0))
+            Ok(Applied {
+                own: Some(Reply::Num(0)),
+                wakes,
+            })
         }
-        Body::Set(set) => on_set(set, caller, call),
-        _ => Ok(Reply::Fail(Errno::Einval)),
+        Body::Set(set) => on_set(alloc, set, who, call),
+        _ => Ok(at_once(alloc, Reply::Fail(Errno::Einval))),
     }
 }
 
-/// A call on the body of its name. A refusal for want of memory changes nothing.
-pub(crate) fn on_body(
+/// A call on the body of its name, which admits it. A refusal for want of memory changes nothing.
+fn on_whole(
+    alloc: Global,
     body: &mut Body,
     name: Name,
-    caller: Pid,
+    who: &Who,
     call: &Call,
-) -> Result<Reply, Memory>
-    ensures ok { IfOk result
-        (λ reply. on_body name (body_of body.old) caller call.now ≡ done (body_of body.new) reply) }
+) -> Result<Applied, Memory>
+    requires { IsTrue (admits (body_of body.old) (waiting_with who.now call.now)) }
+    ensures ok { IfOk result (λ applied.
+        on_whole name (body_of body.old) (waiting_with who.now call.now) ≡ coming (body_of body.new) applied) }
     ensures err { OnErr result (body.new ≡ body.old) }
 {
     match name {
-        Name::Proc(pid) => Ok(on_process(body, pid, caller, call)),
-        Name::Msg(id) => on_queue_body(body, id.0, caller, call),
-        Name::Sem(id) => on_set_body(body, id.0, caller, call),
+        Name::Proc(pid) => Ok(alone(alloc, on_process(body, pid, who, call))),
+        Name::Msg(id) => on_queue_body(alloc, body, id.0, who, call),
+        Name::Sem(id) => on_set_body(alloc, body, id.0, who, call),
     }
+}
+
+/// A call on the body of its name: it is carried out where the body admits it. A refusal for want of memory changes
+/// nothing.
+pub(crate) fn on_body(
+    alloc: Global,
+    body: &mut Body,
+    name: Name,
+    who: &Who,
+    call: &Call,
+) -> Result<Served, Memory>
+    ensures ok { IfOk result (ComesTo name body.old (waiting_with who.now call.now) body.new) }
+    ensures err { OnErr result (body.new ≡ body.old) }
+{
+    if !admits(body, who, call) {
+        return Ok(Served::NotAdmitted);
+    }
+    let readers = who_reads(alloc, body)?;
+    let Applied { own, wakes } = on_whole(alloc, body, name, who, call)?;
+    let reads = has_read(call, &own);
+    Ok(Served::Did {
+        own,
+        wakes,
+        reads,
+        readers,
+    })
 }

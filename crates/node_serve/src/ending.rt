@@ -1,24 +1,25 @@
 //! A process ends where its parent's deed is.
-ghost use Rattle.std.specs.Prelude.{◌≡◌, IfOk, IfErr, IsTrue, OnErr, OnOk, Some, fold};
+ghost use Rattle.std.specs.Prelude.{◌≡◌, ◌+◌, ◌<◌, ◌≤◌, IfOk, IfErr, IsTrue, None, OnErr, OnOk, Some, fold};
 ghost use Rattle.std.specs.List.{IsDistinct};
-ghost use Rattle.kernel_model.specs.Row.{ignores_children, lists, with_ended_child};
-ghost use Rattle.node_model.specs.Bodies.{free_to_act};
+ghost use Rattle.kernel_model.specs.Row.{ignores_children, lists};
 ghost use Rattle.node_model.specs.Kinds.{get_named, is_same_name};
 ghost use Rattle.pico_base.specs.declared.numbers.Name.TheVariants.{Proc};
 ghost use Rattle.node_model.specs.Parcels.{ending_of};
 ghost use Rattle.deed_box.specs.Deeds.{AreAbsent};
 ghost use Rattle.deed_box.specs.Packing.{SomeIsNoDeed, names_of};
 ghost use Rattle.node_serve.specs.Bodies.{body_of, row_of};
-ghost use Rattle.node_serve.specs.Ending.{Commits, EndsAsInKernels, NotesEnd, Takes, child_after, fits_as_read, gone_held, keeps, kept_as, lets, lists_child, parent_after, replace_held};
+ghost use Rattle.node_serve.specs.Ending.{AnswersAt, Commits, EndsAsInKernels, NotesEnd, TakesThenWakes, WakesParent, answered, bury_but, child_after, fits_as_read, gone_held, keeps, kept_as, lets, lists_child, lives, parent_after, replace_held, row_after};
+ghost use Rattle.node_serve.specs.Serving.{child_in};
+ghost use Rattle.node_serve.specs.Waits.{alone};
 ghost use Rattle.node_serve.specs.Spelled.{IsSpelled, suits};
 ghost use Rattle.pico_base.specs.declared.fault.UnpackFault.TheVariants.{NotABody};
 ghost use Rattle.node_serve.specs.declared.ending.ServeFault.TheVariants.{NotABody as NoBody};
-ghost use Rattle.kernel_model.specs.Effect.{reply_alone};
-ghost use Rattle.pico_base.specs.declared.reply.Reply.TheVariants.{Ended};
 
+use crate::rows::reap;
+use crate::serving::{bury, child_in};
 use crate::{Body, Row};
 use deed_box::Deeds;
-use pico_base::{Call, Ending, Memory, Name, Outcome, Pid, Reply, Sig, UnpackFault};
+use pico_base::{Call, Ending, Memory, Name, Pid, Reply, Sig, UnpackFault};
 use rpc_frame::{PackedDeed, Parcel};
 use std::alloc::Global;
 use thiserror::Error;
@@ -58,7 +59,7 @@ pub(crate) fn ending_of(call: &Call) -> Ending
 /// A child of this row's process has ended. What becomes of the child: its ending is kept, unless it is ignored.
 fn end_child_of(row: &mut Row, child: Pid, ending: Ending) -> Body
     requires { IsTrue (lists row.old.family child) }
-    ensures parent { row_of row.new ≡ (with_ended_child (free_to_act (row_of row.old)) child ending).row }
+    ensures parent { row_of row.new ≡ row_after (row_of row.old) child ending }
     ensures child { body_of result ≡ kept_as (ignores_children (row_of row.old)) ending }
 {
     let ignored = row.signals.ignores(Sig::Chld);
@@ -94,7 +95,8 @@ fn names_of(alloc: Global, deeds: &[PackedDeed]) -> Result<Vec<Name>, Memory>
 
 /// Another body for a name, where that is held.
 fn replace(deeds: &mut Deeds<Body>, name: Name, body: Body)
-    ensures { deeds.new.bodies ≡ replace_held deeds.old.bodies name body }
+    ensures bodies { deeds.new.bodies ≡ replace_held deeds.old.bodies name body }
+    ensures spare { deeds.new.spare ≡ deeds.old.spare }
 {
     if let Some(held) = deeds.get_mut(name) {
         *held = body;
@@ -103,7 +105,8 @@ fn replace(deeds: &mut Deeds<Body>, name: Name, body: Body)
 
 /// All of these that are held are gone.
 fn bury_all(deeds: &mut Deeds<Body>, names: &[Name])
-    ensures { deeds.new.bodies ≡ fold gone_held deeds.old.bodies names.now }
+    ensures bodies { deeds.new.bodies ≡ fold gone_held deeds.old.bodies names.now }
+    ensures spare { deeds.new.spare ≡ deeds.old.spare }
 {
     for name in names {
         replace(deeds, *name, Body::Gone);
@@ -132,7 +135,8 @@ fn keeps(deeds: &Deeds<Body>, parent: Pid, child: Pid) -> bool
 
 /// A parent that is held and lists the child notes its end. What becomes of the child.
 fn note_end(deeds: &mut Deeds<Body>, parent: Pid, child: Pid, ending: Ending) -> Body
-    ensures { NotesEnd deeds.old.bodies parent child ending deeds.new.bodies result }
+    ensures notes { NotesEnd deeds.old.bodies parent child ending deeds.new.bodies result }
+    ensures spare { deeds.new.spare ≡ deeds.old.spare }
 {
     if !keeps(deeds, parent, child) {
         return Body::Gone;
@@ -143,17 +147,87 @@ fn note_end(deeds: &mut Deeds<Body>, parent: Pid, child: Pid, ending: Ending) ->
     }
 }
 
-/// Takes the deeds of a parcel where its process's parent is, and ends the process. A refusal changes no deed and hands
-/// the parcel back.
+/// Whether the parent's deed is held, and it lives.
+fn lives(deeds: &Deeds<Body>, parent: Pid) -> bool
+    ensures { result ≡ lives (get_named deeds.now.bodies (Proc parent)) }
+{
+    match deeds.get(Name::Proc(parent)) {
+        Some(body) => matches!(body, Body::Living(_)),
+        None => false,
+    }
+}
+
+/// The process with this body waits for its children. Its reply, if it has one now.
+fn answer(body: &mut Body, child: Option<Pid>) -> Option<Reply>
+    ensures { answered (body_of body.old) child ≡ alone (body_of body.new) result }
+{
+    match body {
+        Body::Living(row) => reap(row, child, false),
+        _ => None,
+    }
+}
+
+/// The parent, which is held, waits for its children. Its reply, if it has one now.
+fn answer_at(deeds: &mut Deeds<Body>, parent: Pid, child: Option<Pid>) -> Option<Reply>
+    ensures answers { AnswersAt deeds.old.bodies parent child deeds.new.bodies result }
+    ensures spare { deeds.new.spare ≡ deeds.old.spare }
+{
+    match deeds.get_mut(Name::Proc(parent)) {
+        Some(body) => answer(body, child),
+        None => None,
+    }
+}
+
+/// The child that a reply names is gone, unless it is the parent itself.
+fn bury_but(deeds: &mut Deeds<Body>, parent: Pid, own: &Option<Reply>)
+    requires { 0 < deeds.old.spare }
+    ensures { deeds.new.bodies ≡ bury_but parent (child_in own.now) deeds.old.bodies }
+{
+    match child_in(own) {
+        Some(child) if child.0 != parent.0 => bury(deeds, child),
+        _ => {}
+    }
+}
+
+/// The parent may be parked in `waitpid`, for these children. Its reply, if it has one now; the child that it found is
+/// gone.
+fn wake_parent(deeds: &mut Deeds<Body>, parent: Pid, awaits: Option<Option<Pid>>) -> Option<Reply>
+    requires { 0 < deeds.old.spare }
+    ensures { WakesParent deeds.old.bodies parent awaits deeds.new.bodies result }
+{
+    let Some(child) = awaits else {
+        return None;
+    };
+    if !lives(deeds, parent) {
+        return None;
+    }
+    let own = answer_at(deeds, parent, child);
+    bury_but(deeds, parent, &own);
+    own
+}
+
+/// Room for so many deeds, and for one more.
+fn reserve_beyond(deeds: &mut Deeds<Body>, count: usize) -> Result<(), Memory>
+    ensures room { OnOk result (count + 1 ≤ deeds.new.spare) }
+    ensures same { deeds.new.bodies ≡ deeds.old.bodies }
+{
+    if count >= u32::MAX as usize {
+        return Err(Memory);
+    }
+    deeds.reserve(count as u32 + 1)
+}
+
+/// Takes the deeds of a parcel where its process's parent is, and ends the process; the parent may be parked in
+/// `waitpid`, for these children. A refusal changes no deed and hands the parcel back.
 fn take_parcel(
     alloc: Global,
     deeds: &mut Deeds<Body>,
     parcel: Parcel,
-) -> Result<Outcome, (ServeFault, Parcel)>
+    awaits: Option<Option<Pid>>,
+) -> Result<Option<Reply>, (ServeFault, Parcel)>
     requires distinct { IsDistinct is_same_name (names_of parcel.deeds) }
     requires absent { AreAbsent deeds.old.bodies (names_of parcel.deeds) }
-    ensures ok { OnOk result (Takes deeds.old.bodies parcel deeds.new.bodies) }
-    ensures outcome { IfOk result (λ outcome. outcome ≡ reply_alone Ended) }
+    ensures ok { IfOk result (TakesThenWakes deeds.old.bodies parcel awaits deeds.new.bodies) }
     ensures not_a_body { IfErr result (λ back. back.0 ≡ NoBody → SomeIsNoDeed suits IsSpelled parcel.deeds) }
     ensures err { OnErr result (deeds.new.bodies ≡ deeds.old.bodies) }
     ensures back { IfErr result (λ back. back.1 ≡ parcel) }
@@ -162,6 +236,9 @@ fn take_parcel(
         Ok(names) => names,
         Err(_) => return Err((ServeFault::Memory, parcel)),
     };
+    if reserve_beyond(deeds, parcel.deeds.len()).is_err() {
+        return Err((ServeFault::Memory, parcel));
+    }
     let Parcel {
         pid,
         parent,
@@ -180,28 +257,29 @@ fn take_parcel(
     let kept = note_end(deeds, parent, pid, ending_of(&call));
     bury_all(deeds, names.as_slice());
     replace(deeds, Name::Proc(pid), kept);
-    Ok(Outcome::reply(alloc, Reply::Ended))
+    Ok(wake_parent(deeds, parent, awaits))
 }
 
 /// Ends the process of a parcel where its parent's deed is. The parent notes the end, if it lives; all processes of the
-/// parcel are gone, but for the one that ends where its parent keeps its ending. `ok` says so by the definition of an
-/// exit that is carried out, and `kernel` by the transition of any valid kernel that agrees with the deeds and the
-/// parcel. A refusal changes no deed and hands the parcel back; NotABody comes exactly where a deed of the parcel
-/// spells no body that goes with its name.
+/// parcel are gone, but for the one that ends where its parent keeps its ending. Where the parent is parked in a
+/// `waitpid` that waits for these children it may have its reply, which is given; a child that it found is gone. `ok`
+/// says so by the definition of an exit that is carried out, and `kernel`, of a parent that isn't parked, by the
+/// transition of any valid kernel that agrees with the deeds and the parcel. A refusal changes no deed and hands the
+/// parcel back; NotABody comes exactly where a deed of the parcel spells no body that goes with its name.
 pub fn commit_exit(
     alloc: Global,
     deeds: &mut Deeds<Body>,
     parcel: Parcel,
-) -> Result<Outcome, (ServeFault, Parcel)>
+    awaits: Option<Option<Pid>>,
+) -> Result<Option<Reply>, (ServeFault, Parcel)>
     requires parent { IsTrue (lets parcel.pid (get_named deeds.old.bodies (Proc parcel.parent))) }
     requires absent { AreAbsent deeds.old.bodies (names_of parcel.deeds) }
     requires fits { IsTrue (fits_as_read parcel) }
-    ensures ok { OnOk result (Commits deeds.old.bodies parcel deeds.new.bodies) }
-    ensures kernel { IfOk result (EndsAsInKernels deeds.old.bodies parcel deeds.new.bodies) }
-    ensures outcome { IfOk result (λ outcome. outcome ≡ reply_alone Ended) }
+    ensures ok { IfOk result (Commits deeds.old.bodies parcel awaits deeds.new.bodies) }
+    ensures kernel { OnOk result (awaits ≡ None → EndsAsInKernels deeds.old.bodies parcel deeds.new.bodies) }
     ensures not_a_body { IfErr result (λ back. back.0 ≡ NoBody → SomeIsNoDeed suits IsSpelled parcel.deeds) }
     ensures err { OnErr result (deeds.new.bodies ≡ deeds.old.bodies) }
     ensures back { IfErr result (λ back. back.1 ≡ parcel) }
 {
-    take_parcel(alloc, deeds, parcel)
+    take_parcel(alloc, deeds, parcel, awaits)
 }

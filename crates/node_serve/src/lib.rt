@@ -12,9 +12,13 @@ mod serving;
 mod sets;
 mod shared;
 mod unpacking;
+mod waiters;
+mod waiting;
+mod who;
 
 pub use body::{Body, Row};
 pub use ending::{ServeFault, commit_exit};
 pub use laws::{read_bodies_are_spelled, spelled_bodies_are_read};
-pub use serving::{Served, bury, serve};
-pub use unpacking::is_body;
+pub use serving::{Readers, Served, bury, name_for, serve};
+pub use waiters::{Withdrawn, callers, withdraw};
+pub use who::Who;

@@ -56,7 +56,7 @@ pub(crate) fn pack(alloc: Global, body: &Body) -> Result<Bytes, Memory>
         Body::Living(row) => pack_row(alloc, row),
         Body::Ended(ending) => pack_ending(alloc, *ending),
         Body::Gone => Bytes::from_slice(alloc, &[GONE]),
-        Body::Queue(queue) => queue.pack(alloc),
+        Body::Queue(queue) => queue.pack(),
         Body::Set(set) => set.pack(),
         Body::Removed => Bytes::from_slice(alloc, &[REMOVED]),
     }

@@ -3,8 +3,9 @@ ghost use Rattle.std.specs.Prelude.{◌≡◌};
 ghost use Rattle.kernel_model.specs.Row as definition;
 ghost use Rattle.kernel_model.specs.Signals.{act_on};
 ghost use Rattle.node_serve.specs.Bodies.{row_of};
-ghost use Rattle.node_serve.specs.Waits.{reply_to};
-ghost use Rattle.node_model.specs.Carrying.{act, done, on_row, reap, signal};
+ghost use Rattle.node_serve.specs.Waits.{alone, reply_to};
+ghost use Rattle.node_model.specs.Awaiting.{on_own, reap};
+ghost use Rattle.node_model.specs.Carrying.{act, done, signal};
 
 use crate::Row;
 use fork_wait::Waited;
@@ -34,38 +35,39 @@ fn act(row: &mut Row, sig: SigArg, action: Act) -> Reply
     }
 }
 
-/// The reply to a wait that found something.
-fn found(waited: Waited) -> Reply
-    ensures { result ≡ reply_to waited }
+/// The reply to a wait that found something. None: the caller has to wait.
+fn found(waited: Waited, nohang: bool) -> Option<Reply>
+    ensures { result ≡ reply_to nohang waited }
 {
     match waited {
-        Waited::Child { pid, ending } => Reply::Child { pid, ending },
-        Waited::NotYet => Reply::Num(0),
+        Waited::Child { pid, ending } => Some(Reply::Child { pid, ending }),
+        Waited::NotYet if nohang => Some(Reply::Num(0)),
+        Waited::NotYet => None,
     }
 }
 
-/// waitpid with WNOHANG: ECHILD.
-fn reap(row: &mut Row, child: Option<Pid>) -> Reply
-    ensures { reap (row_of row.old) (definition.wait row.old.family child) ≡ done (row_of row.new) result }
+/// waitpid: ECHILD. None: the caller has to wait.
+pub(crate) fn reap(row: &mut Row, child: Option<Pid>, nohang: bool) -> Option<Reply>
+    ensures { reap (row_of row.old) nohang (definition.wait row.old.family child) ≡ alone (row_of row.new) result }
 {
     match row.family.wait(child) {
-        Ok(waited) => found(waited),
-        Err(errno) => Reply::Fail(errno),
+        Ok(waited) => found(waited, nohang),
+        Err(errno) => Some(Reply::Fail(errno)),
     }
 }
 
-/// A call on the row of a living process, by itself or, for kill, by another one.
-pub(crate) fn on_row(row: &mut Row, pid: Pid, call: &Call) -> Reply
-    ensures { on_row (row_of row.old) pid call.now ≡ done (row_of row.new) result }
+/// A call on the row of a living process, by itself or, for kill, by another one. None: the caller has to wait.
+pub(crate) fn on_row(row: &mut Row, pid: Pid, call: &Call) -> Option<Reply>
+    ensures { on_own (row_of row.old) pid call.now ≡ alone (row_of row.new) result }
 {
     match call {
-        Call::GetPid => Reply::Num(pid.0),
-        Call::Kill { sig, .. } => signal(row, *sig),
-        Call::SigAction { sig, act: action } => act(row, *sig, *action),
-        Call::SigProcMask { how, set } => Reply::Bits(row.signals.mask(*how, *set)),
-        Call::SigPending => Reply::Bits(row.signals.pending()),
-        Call::Handled { sig } => Reply::Num(row.signals.handled(*sig)),
-        Call::WaitPid { child, .. } => reap(row, *child),
-        _ => Reply::Fail(Errno::Einval),
+        Call::GetPid => Some(Reply::Num(pid.0)),
+        Call::Kill { sig, .. } => Some(signal(row, *sig)),
+        Call::SigAction { sig, act: action } => Some(act(row, *sig, *action)),
+        Call::SigProcMask { how, set } => Some(Reply::Bits(row.signals.mask(*how, *set))),
+        Call::SigPending => Some(Reply::Bits(row.signals.pending())),
+        Call::Handled { sig } => Some(Reply::Num(row.signals.handled(*sig))),
+        Call::WaitPid { child, nohang } => reap(row, *child, *nohang),
+        _ => Some(Reply::Fail(Errno::Einval)),
     }
 }

@@ -1,14 +1,29 @@
 //! Calls on a semaphore set.
-ghost use Rattle.std.specs.Prelude.{◌≡◌, IfOk, OnErr};
+ghost use Rattle.std.specs.Prelude.{◌≡◌, ◌<◌, [], IfOk, OnErr, false, length};
+ghost use Rattle.std.specs.List.{list_any};
 ghost use Rattle.kernel_model.specs.SemaphoreSet as definition;
+ghost use Rattle.kernel_model.specs.Waiting.{may_wait};
+ghost use Rattle.waiting_model.specs.Calls.{may_park};
+ghost use Rattle.waiting_model.specs.SemaphoreSet.{carry_out_on_set};
+ghost use Rattle.waiting_model.specs.Waiters.{waits_here};
+ghost use Rattle.sysv_sem.specs.Calls.{carried_to, is_on_set};
 ghost use Rattle.node_model.specs.Carrying.{change, done, look, on_set};
+ghost use Rattle.node_serve.specs.Callers.{waiting_with};
 
+use crate::Who;
+use crate::waiting::{at_once, waiting_with};
+use node_calls::may_park;
 use pico_base::{Call, Errno, Memory, Pid, Reply, SemStep};
+use std::alloc::Global;
 use sysv_sem::SemSet;
+use waiting_model::Applied;
 
-/// semop, where no operation may wait: E2BIG, EFBIG, EAGAIN or ERANGE.
+/// semop, where nobody waits and no operation may wait: E2BIG, EFBIG, EAGAIN or ERANGE.
 fn operate(set: &mut SemSet, pid: Pid, steps: &[SemStep]) -> Reply
-    ensures { change set.old (definition.op set.old pid steps.now) ≡ done set.new result }
+    requires nobody { set.old.waiters ≡ [] }
+    requires at_once { list_any may_wait steps.now ≡ false }
+    ensures done { change set.old.state (definition.op set.old.state pid steps.now) ≡ done set.new.state result }
+    ensures still { set.new.waiters ≡ [] }
 {
     match set.op(pid, steps) {
         Ok(()) => Reply::Num(0),
@@ -16,9 +31,11 @@ fn operate(set: &mut SemSet, pid: Pid, steps: &[SemStep]) -> Reply
     }
 }
 
-/// semctl with SETVAL: EINVAL or ERANGE.
+/// semctl with SETVAL, where nobody waits: EINVAL or ERANGE.
 fn set_value(set: &mut SemSet, num: u16, value: u32) -> Reply
-    ensures { change set.old (definition.set_value set.old num value) ≡ done set.new result }
+    requires nobody { set.old.waiters ≡ [] }
+    ensures set { change set.old.state (definition.set_value set.old.state num value) ≡ done set.new.state result }
+    ensures still { set.new.waiters ≡ [] }
 {
     match set.set_value(num, value) {
         Ok(()) => Reply::Num(0),
@@ -26,9 +43,11 @@ fn set_value(set: &mut SemSet, num: u16, value: u32) -> Reply
     }
 }
 
-/// semctl with SETALL: EINVAL or ERANGE.
+/// semctl with SETALL, where nobody waits: EINVAL or ERANGE.
 fn set_all(set: &mut SemSet, values: &[u32]) -> Reply
-    ensures { change set.old (definition.set_all set.old values.now) ≡ done set.new result }
+    requires nobody { set.old.waiters ≡ [] }
+    ensures set { change set.old.state (definition.set_all set.old.state values.now) ≡ done set.new.state result }
+    ensures still { set.new.waiters ≡ [] }
 {
     match set.set_all(values) {
         Ok(()) => Reply::Num(0),
@@ -38,7 +57,7 @@ fn set_all(set: &mut SemSet, values: &[u32]) -> Reply
 
 /// semctl with GETVAL: EINVAL.
 fn value(set: &SemSet, num: u16) -> Reply
-    ensures { look set.now (definition.value_at set.now num) ≡ done set.now result }
+    ensures { look set.now.state (definition.value_at set.now.state num) ≡ done set.now.state result }
 {
     match set.value(num) {
         Ok(value) => Reply::Num(value),
@@ -48,7 +67,7 @@ fn value(set: &SemSet, num: u16) -> Reply
 
 /// semctl with GETPID: EINVAL.
 fn last(set: &SemSet, num: u16) -> Reply
-    ensures { look set.now (definition.last_at set.now num) ≡ done set.now result }
+    ensures { look set.now.state (definition.last_at set.now.state num) ≡ done set.now.state result }
 {
     match set.last(num) {
         Ok(pid) => Reply::Num(pid.0),
@@ -56,9 +75,9 @@ fn last(set: &SemSet, num: u16) -> Reply
     }
 }
 
-/// semctl with GETNCNT or GETZCNT: EINVAL, and else 0, since nobody waits.
+/// semctl with GETNCNT or GETZCNT, where nobody waits: EINVAL, and else 0.
 fn waiting(set: &SemSet, num: u16) -> Reply
-    ensures { look set.now (definition.waiting_at set.now num) ≡ done set.now result }
+    ensures { look set.now.state (definition.waiting_at set.now.state num) ≡ done set.now.state result }
 {
     match set.value(num) {
         Ok(_) => Reply::Num(0),
@@ -66,9 +85,13 @@ fn waiting(set: &SemSet, num: u16) -> Reply
     }
 }
 
-/// A call on a set that is there, other than its removal. A refusal for want of memory changes nothing.
-pub(crate) fn on_set(set: &mut SemSet, pid: Pid, call: &Call) -> Result<Reply, Memory>
-    ensures ok { IfOk result (λ reply. on_set set.old pid call.now ≡ done set.new reply) }
+/// A call that needn't wait on a set at which nobody waits, other than its removal. A refusal for want of memory
+/// changes nothing.
+fn carry_out(set: &mut SemSet, pid: Pid, call: &Call) -> Result<Reply, Memory>
+    requires nobody { set.old.waiters ≡ [] }
+    requires at_once { may_park call.now ≡ false }
+    ensures ok { IfOk result (λ reply. on_set set.old.state pid call.now ≡ done set.new.state reply) }
+    ensures still { set.new.waiters ≡ [] }
     ensures err { OnErr result (set.new ≡ set.old) }
 {
     match call {
@@ -81,4 +104,58 @@ pub(crate) fn on_set(set: &mut SemSet, pid: Pid, call: &Call) -> Result<Reply, M
         Call::SemSetAll { values, .. } => Ok(set_all(set, values.as_slice())),
         _ => Ok(Reply::Fail(Errno::Einval)),
     }
+}
+
+/// Whether it is one of the calls on a set but its removal.
+fn is_on_set(call: &Call) -> bool
+    ensures { result ≡ is_on_set call.now }
+{
+    match call {
+        Call::SemOp { .. } | Call::SemGetVal { .. } | Call::SemGetPid { .. } => true,
+        Call::SemGetNcnt { .. } | Call::SemGetZcnt { .. } | Call::SemSetVal { .. } => true,
+        Call::SemGetAll { .. } | Call::SemSetAll { .. } => true,
+        _ => false,
+    }
+}
+
+/// A call that may have to wait, or that may wake others or count them. Memory, too, for a call of another kind, and
+/// for a ticket 0.
+#[inline(never)]
+fn park_or_wake(alloc: Global, set: &mut SemSet, who: &Who, call: &Call) -> Result<Applied, Memory>
+    requires own { waits_here who.now.pid set.old ≡ false }
+    requires few { length set.old.waiters < 32 }
+    ensures ok { IfOk result (λ applied.
+        carry_out_on_set set.old (waiting_with who.now call.now) ≡ carried_to set.new applied) }
+    ensures err { OnErr result (set.new ≡ set.old) }
+{
+    if who.ticket == 0 || !is_on_set(call) {
+        return Err(Memory);
+    }
+    let waiting = waiting_with(alloc, who, call)?;
+    match set.apply(waiting) {
+        Ok(applied) => Ok(applied),
+        Err(_) => Err(Memory),
+    }
+}
+
+/// A call on a set that is there, other than its removal. Where it can't park and nobody waits it is carried out as it
+/// stands; else it is copied, with its caller. A refusal for want of memory changes nothing. Memory, too, for a call of
+/// another kind, and for a ticket 0.
+pub(crate) fn on_set(
+    alloc: Global,
+    set: &mut SemSet,
+    who: &Who,
+    call: &Call,
+) -> Result<Applied, Memory>
+    requires own { waits_here who.now.pid set.old ≡ false }
+    requires few { length set.old.waiters < 32 }
+    ensures ok { IfOk result (λ applied.
+        carry_out_on_set set.old (waiting_with who.now call.now) ≡ carried_to set.new applied) }
+    ensures err { OnErr result (set.new ≡ set.old) }
+{
+    if set.waiting() > 0 || may_park(call) {
+        return park_or_wake(alloc, set, who, call);
+    }
+    let reply = carry_out(set, who.pid, call)?;
+    Ok(at_once(alloc, reply))
 }

@@ -5,12 +5,12 @@ ghost use Rattle.pico_base.specs.declared.reply.Ending.{Ending as Ends};
 ghost use Rattle.fork_wait.specs.Spelling.{ending_bytes};
 ghost use Rattle.node_serve.specs.declared.body.Row.{Row as Rows};
 ghost use Rattle.node_serve.specs.declared.body.Body.{Body as Bodies};
-ghost use Rattle.node_serve.specs.Spelled.{IsEnding, IsRow, IsSpelled, TellsBody, suits};
+ghost use Rattle.node_serve.specs.Spelled.{IsEnding, IsRow, IsSpelled, suits};
 
 use crate::packing::{ENDED, GONE, LIVING, REMOVED};
 use crate::{Body, Row};
 use fork_wait::Family;
-use pico_base::{Ending, Memory, Name, Sig, UnpackFault};
+use pico_base::{Ending, Name, Sig, UnpackFault};
 use signal_state::{PACKED, Signals};
 use std::alloc::Global;
 use sysv_msg::Queue;
@@ -105,51 +105,5 @@ pub(crate) fn unpack(alloc: Global, name: Name, bytes: &[u8]) -> Result<Body, Un
         Name::Proc(_) => process_of(alloc, bytes),
         Name::Msg(_) => queue_of(alloc, bytes),
         Name::Sem(_) => set_of(alloc, bytes),
-    }
-}
-
-/// Whether the bytes are those of a queue or set that was removed.
-fn is_removed(bytes: &[u8]) -> bool
-    ensures yes { result ≡ true → bytes.now ≡ 6 ∷ [] }
-    ensures no { result ≡ false → bytes.now ≡ 6 ∷ [] → ⊥ }
-{
-    matches!(bytes, [REMOVED])
-}
-
-/// Whether the bytes are those of a body that goes with a queue's name.
-fn is_queue(bytes: &[u8]) -> bool
-    ensures { (id : ℕ) → TellsBody (Name.Msg id) bytes.now result }
-{
-    if is_removed(bytes) {
-        return true;
-    }
-    Queue::is_packed(bytes)
-}
-
-/// Whether the bytes are those of a body that goes with a set's name.
-fn is_set(bytes: &[u8]) -> bool
-    ensures { (id : ℕ) → TellsBody (Name.Sem id) bytes.now result }
-{
-    if is_removed(bytes) {
-        return true;
-    }
-    SemSet::is_packed(bytes)
-}
-
-/// Whether the bytes are those of a body that goes with the name. Of a queue or a set they are only read, and nothing
-/// is copied.
-pub fn is_body(alloc: Global, name: Name, bytes: &[u8]) -> Result<bool, Memory>
-    ensures { IfOk result (TellsBody name bytes.now) }
-{
-    if let Name::Msg(_) = name {
-        return Ok(is_queue(bytes));
-    }
-    if let Name::Sem(_) = name {
-        return Ok(is_set(bytes));
-    }
-    match unpack(alloc, name, bytes) {
-        Ok(_) => Ok(true),
-        Err(UnpackFault::NotABody) => Ok(false),
-        Err(UnpackFault::Memory) => Err(Memory),
     }
 }

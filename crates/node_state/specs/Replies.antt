@@ -1,13 +1,9 @@
--- Where a reply goes, by the caller's node and its ticket.
-use Rattle.std.specs.Prelude.{ℕ, nat_eq, if◌then◌else◌}
+-- Where a reply goes, if there is one, by the caller's node and its ticket.
+use Rattle.std.specs.Prelude.{ℕ, Option, Some, None}
 use Rattle.pico_base.specs.declared.reply.Reply.{Reply}
 use Rattle.pico_base.specs.declared.script.Script.{Script}
-use Rattle.rpc_frame.specs.declared.frame.Frame.TheVariants.{Answer}
-use Rattle.world_model.specs.Node.{under_way_as}
-use Rattle.world_model.specs.Step.{Step, reply_here, send}
+use Rattle.world_model.specs.Step.{Step, reply_at}
 
-abbrev pub reply_at : Script → Step → ℕ → ℕ → Reply → Step
-reply_at script step caller ticket reply =
-    if nat_eq caller step.node.number
-    then reply_here script step reply (under_way_as step.node ticket)
-    else send step caller (Answer ticket reply)
+abbrev pub reply_where : Script → Step → ℕ → ℕ → Option Reply → Step
+reply_where script step caller ticket None = step
+reply_where script step caller ticket (Some reply) = reply_at script step caller ticket reply

@@ -32,4 +32,4 @@ node_of s =
     }
 
 abbrev pub step_of : Growing → steps.Step
-step_of g = record { node = node_of g.node; entries = g.entries; sends = g.sends }
+step_of g = record { node = node_of g.node; entries = g.entries; sends = g.sends; strikes = g.strikes }

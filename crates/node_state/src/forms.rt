@@ -3,7 +3,7 @@ ghost use Rattle.std.specs.Prelude.{◌≡◌, ◌↔◌, IsTrue, MatchOption, S
 ghost use Rattle.std.specs.Option.{option_copied};
 ghost use Rattle.std.specs.List.{list_any};
 ghost use Rattle.kernel_model.specs.SemaphoreSet.{is_bad_count};
-ghost use Rattle.kernel_model.specs.Waiting.{is_waiting, may_wait};
+ghost use Rattle.waiting_model.specs.Calls.{is_withdrawal, withdrawn_from};
 ghost use Rattle.kernel_model.specs.Fitting.{block_at};
 ghost use Rattle.node_model.specs.Kinds.{is_object, name_of};
 ghost use Rattle.node_model.specs.Leases.{takes_number};
@@ -11,26 +11,24 @@ ghost use Rattle.world_model.specs.Node.{is_node};
 ghost use Rattle.world_model.specs.Calls.{is_for_others, is_on_name_or_removal};
 ghost use Rattle.world_model.specs.Lives.{is_end, is_forked_by, names_block};
 
-use pico_base::{Block, Call, Home, Kind, Line, Name, Node, Pid, Script, SemStep};
+pub use node_calls::may_park;
+use pico_base::{Block, Call, Home, Kind, Line, Name, Node, Pid, Script};
 
-/// Whether one of the operations may have to wait: it isn't positive, and has no IPC_NOWAIT.
-fn may_wait(steps: &[SemStep]) -> bool
-    ensures { result ≡ list_any may_wait steps.now }
-{
-    steps.iter().any(|step| step.add <= 0 && !step.nowait)
-}
-
-/// Whether the call has a form that may have to wait, or ends a wait.
-pub fn is_waiting(call: &Call) -> bool
-    ensures { result ≡ is_waiting call.now }
+/// The name at which the wait is that the call ends, where it ends one.
+pub fn withdrawn_from(call: &Call) -> Option<Name>
+    ensures { result ≡ withdrawn_from call.now }
 {
     match call {
-        Call::MsgSnd { nowait, .. } | Call::MsgRcv { nowait, .. } => !*nowait,
-        Call::WaitPid { nohang, .. } => !*nohang,
-        Call::SemOp { steps, .. } => may_wait(steps.as_slice()),
-        Call::Withdraw { .. } => true,
-        _ => false,
+        Call::Withdraw { name } => Some(*name),
+        _ => None,
     }
+}
+
+/// Whether the call ends a wait.
+pub fn is_withdrawal(call: &Call) -> bool
+    ensures { result ≡ is_withdrawal call.now }
+{
+    matches!(call, Call::Withdraw { .. })
 }
 
 /// Whether a call of this home is carried out where its name or the keys are.

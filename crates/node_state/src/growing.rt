@@ -1,27 +1,64 @@
 //! A step that grows.
-ghost use Rattle.std.specs.Prelude.{◌≡◌, IsTrue, OnOk};
+ghost use Rattle.std.specs.Prelude.{◌≡◌, IfOk, IsTrue, OnOk, map};
 ghost use Rattle.kernel_model.specs.Script.{IsSoundScript};
 ghost use Rattle.world_model.specs.Node.{asked_here, under_way_as};
-ghost use Rattle.world_model.specs.Step.{carry_out, enter, reply_here, reply_to, send};
+ghost use Rattle.waiting_model.specs.Effect.{woken_pair};
+ghost use Rattle.node_model.specs.Entries.{outcome_with};
+ghost use Rattle.world_model.specs.Step.{carry_out, carry_out_waking, enter, enter_with, reply_at, reply_here, reply_to, send, wake_all, with_strike};
 ghost use Rattle.node_calls.specs.Caller.{HasLine};
 ghost use Rattle.node_state.specs.State.{node_of, step_of};
-ghost use Rattle.node_state.specs.Replies.{reply_at};
+ghost use Rattle.node_state.specs.Replies.{reply_where};
 ghost use Rattle.node_state.specs.Started.{can_start, started};
 
 use crate::fault::unreached;
 use crate::state::State;
-use pico_base::{Call, Entries, Entry, Memory, Node, Outcome, Pid, Reply, Script, Sequence};
+use pico_base::{Call, Entries, Entry, Memory, Node, Outcome, Pid, Reply, Script, Sequence, Woken};
 use rpc_frame::{Asked, Frame};
+use std::alloc::Global;
+use waiting_model::{Wake, Wakes};
 
 /// Frames to send, each with the node that it goes to, in order.
 pub type Sends = Sequence<(Node, Frame)>;
 
-/// What a node does in a turn so far: its state, the entries that it makes, and the frames that it sends.
+/// What a node does in a turn so far: its state, the entries that it makes, the frames that it sends, and whether a
+/// signal strikes its process.
 #[derive(Drop)]
 pub struct Growing {
     pub node: State,
     pub entries: Entries,
     pub sends: Sends,
+    pub strikes: bool,
+}
+
+/// The replies of those who are woken, as an entry has them.
+fn woken_by(alloc: Global, wakes: &[Wake]) -> Result<Woken, Memory>
+    ensures { IfOk result (λ woken. woken ≡ map woken_pair wakes.now) }
+{
+    let mut woken = Woken::new(alloc);
+    for wake in wakes {
+        woken.push((wake.pid, wake.reply.try_copy(alloc)?))?;
+    }
+    Ok(woken)
+}
+
+/// The same reply, if there is one.
+fn copy_of(alloc: Global, own: &Option<Reply>) -> Result<Option<Reply>, Memory>
+    ensures { IfOk result (λ copy. copy ≡ own.now) }
+{
+    match own {
+        Some(reply) => Ok(Some(reply.try_copy(alloc)?)),
+        None => Ok(None),
+    }
+}
+
+/// What a call comes to that may have no reply, and may wake others.
+fn outcome_with(alloc: Global, own: &Option<Reply>, wakes: &[Wake]) -> Result<Outcome, Memory>
+    ensures { IfOk result (λ outcome. outcome ≡ outcome_with own.now wakes.now) }
+{
+    Ok(Outcome {
+        own: copy_of(alloc, own)?,
+        woken: woken_by(alloc, wakes)?,
+    })
 }
 
 impl Growing {
@@ -53,6 +90,49 @@ impl Growing {
             by: self.node.number(),
         });
         Ok(())
+    }
+
+    /// The entry of a call that may have no reply, and may wake others. Memory as above.
+    pub fn enter_waking(
+        &mut self,
+        pid: Pid,
+        call: Call,
+        own: &Option<Reply>,
+        wakes: &[Wake],
+    ) -> Result<(), Memory>
+        ensures { OnOk result
+            (step_of self.new ≡ enter_with (step_of self.old) pid call (outcome_with own.now wakes.now)) }
+    {
+        let outcome = outcome_with(self.node.alloc, own, wakes)?;
+        let by = self.node.number();
+        self.entries.push(Entry {
+            pid,
+            call,
+            outcome,
+            by,
+        })
+    }
+
+    /// A signal strikes the node's own process, if this is so.
+    pub fn strike_if(&mut self, now: bool)
+        ensures { step_of self.new ≡ with_strike (step_of self.old) now }
+    {
+        self.strikes = self.strikes || now;
+    }
+
+    /// The call under way, if there is one, has its reply. Memory, too, where its line isn't there.
+    pub fn answer_own(&mut self, script: &Script, reply: &Reply) -> Result<(), Memory>
+        requires sound { IsSoundScript script.now }
+        ensures { OnOk result (step_of self.new
+            ≡ reply_here script.now (step_of self.old) reply.now (node_of self.old.node).caller.under_way) }
+    {
+        if self.node.caller.under_way().is_none() {
+            return Ok(());
+        }
+        if !self.node.caller.has_line(script) {
+            return Err(unreached());
+        }
+        self.node.caller.answered(script, reply)
     }
 
     /// The call under way has its reply, if it is the one with this ticket. Memory, too, where its line isn't there.
@@ -113,6 +193,58 @@ impl Growing {
         let answer = reply.try_copy(self.node.alloc)?;
         self.enter(pid, call, reply)?;
         self.reply_at(script, caller, ticket, answer)
+    }
+
+    /// The reply goes to the caller, if there is one. Memory, too, where the call's line isn't there.
+    fn reply_if(
+        &mut self,
+        script: &Script,
+        caller: Node,
+        ticket: u32,
+        own: Option<Reply>,
+    ) -> Result<(), Memory>
+        requires sound { IsSoundScript script.now }
+        ensures { OnOk result (step_of self.new ≡ reply_where script.now (step_of self.old) caller ticket own) }
+    {
+        match own {
+            Some(reply) => self.reply_at(script, caller, ticket, reply),
+            None => Ok(()),
+        }
+    }
+
+    /// Each who is woken has its reply, in order. Memory, too, where the line of a call of this node isn't there.
+    fn wake_all(&mut self, script: &Script, wakes: Wakes) -> Result<(), Memory>
+        requires sound { IsSoundScript script.now }
+        ensures { OnOk result (step_of self.new ≡ wake_all script.now (step_of self.old) wakes) }
+    {
+        for wake in wakes.into_vec() {
+            self.reply_at(script, wake.caller, wake.ticket, wake.reply)?;
+        }
+        Ok(())
+    }
+
+    /// A call is carried out here that may have to wait or wake others: an entry; the reply, if there is one; and then
+    /// each who is woken has its reply, in the order of waking. Memory, too, as above.
+    #[inline(never)]
+    pub fn carry_out_waking(
+        &mut self,
+        script: &Script,
+        asked: Asked,
+        own: Option<Reply>,
+        wakes: Wakes,
+    ) -> Result<(), Memory>
+        requires sound { IsSoundScript script.now }
+        ensures { OnOk result (step_of self.new ≡ carry_out_waking script.now (step_of self.old) asked own wakes) }
+    {
+        let Asked {
+            caller,
+            ticket,
+            pid,
+            call,
+        } = asked;
+        self.enter_waking(pid, call, &own, wakes.as_slice())?;
+        self.reply_if(script, caller, ticket, own)?;
+        self.wake_all(script, wakes)
     }
 
     /// A call of this node's process is started and carried out here at once: an entry, and the call's end, with no

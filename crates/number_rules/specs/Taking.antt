@@ -10,6 +10,7 @@ use Rattle.pico_base.specs.declared.script.Script.{Script}
 use Rattle.kernel_model.specs.Queue.{empty_queue}
 use Rattle.kernel_model.specs.Row.{Row, child_row}
 use Rattle.kernel_model.specs.SemaphoreSet.{SemaphoreSet, is_bad_count, new_set}
+use Rattle.waiting_model.specs.Waiters.{unawaited}
 use Rattle.node_model.specs.Bodies.{AQueue, ASet, Body, Living}
 use Rattle.node_model.specs.Leases.{leases_hold, takes_number}
 use Rattle.node_model.specs.Serving.{parent_body}
@@ -24,14 +25,14 @@ taken number n = record { number = number; node = n }
 
 -- a new queue is held here under this number
 abbrev pub IsNewQueue : Node → ℕ → Node → Name → Type 0
-IsNewQueue old number new name = (name ≡ Msg number) × (new ≡ keep old (Msg number) (AQueue empty_queue))
+IsNewQueue old number new name = (name ≡ Msg number) × (new ≡ keep old (Msg number) (AQueue (unawaited empty_queue)))
 
 -- a new set of so many semaphores is held here under this number
 pub record IsNewSet (old : Node) (number count : ℕ) (new : Node) (name : Name) : Type 0 where
   pub set : SemaphoreSet
   pub is : new_set count ≡ Ok set
   pub named : name ≡ Sem number
-  pub after : new ≡ keep old (Sem number) (ASet set)
+  pub after : new ≡ keep old (Sem number) (ASet (unawaited set))
 
 -- a process that lives has forked: its row lists the child, whose row is made from it
 pub record IsForkedBody (old : Body) (child : ℕ) (new : Body) (made : Row) : Type 0 where

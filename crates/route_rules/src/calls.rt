@@ -3,7 +3,7 @@ ghost use Rattle.std.specs.Prelude.{◌≡◌, ◌&&◌, not, IsTrue, OnOk};
 ghost use Rattle.pico_base.specs.Home.{home_of};
 ghost use Rattle.pico_base.specs.declared.call.Home.TheVariants as homes;
 ghost use Rattle.kernel_model.specs.Script.{IsSoundScript};
-ghost use Rattle.kernel_model.specs.Waiting.{is_waiting};
+ghost use Rattle.waiting_model.specs.Calls.{is_withdrawal};
 ghost use Rattle.world_model.specs.Node.{is_node};
 ghost use Rattle.world_model.specs.Routes.{route_call};
 ghost use Rattle.world_model.specs.Calls.{asks_as, bounce, bounce_or_nobody, forwarded_by, is_for_others, is_from_leader, is_on_name_or_removal, is_to_leader, requested_by, take_ask, take_bounce, take_forward, take_request};
@@ -13,7 +13,7 @@ ghost use Rattle.route_rules.specs.Asking.{route_if};
 
 use crate::keys::get_by_key_if;
 use crate::routing::{may_route, route_call};
-use node_state::forms::{is_for_others, is_node, is_on_name_or_removal, is_waiting};
+use node_state::forms::{is_for_others, is_node, is_on_name_or_removal, is_withdrawal};
 use node_state::{Growing, LEADER, State, TurnFault};
 use pico_base::{Call, Home, Memory, Name, Node, Pid, Script, home};
 use rpc_frame::{Asked, Frame};
@@ -79,7 +79,7 @@ fn route_if(
 fn may_ask(node: &State, from: Node, pid: Pid, call: &Call) -> bool
     ensures { result ≡ (is_to_leader (node_of node.now) from && asks_as is_for_others pid call.now) }
 {
-    node.is_to_leader(from) && (is_for_others(&home(pid, call)) && !is_waiting(call))
+    node.is_to_leader(from) && (is_for_others(&home(pid, call)) && !is_withdrawal(call))
 }
 
 /// The Ask rule: the leader routes the call.
@@ -113,7 +113,8 @@ fn may_bounce(node: &State, script: &Script, from: Node, asked: &Asked) -> bool
 {
     node.is_to_leader(from)
         && (is_node(script, asked.caller)
-            && (is_on_name_or_removal(&home(asked.pid, &asked.call)) && !is_waiting(&asked.call)))
+            && (is_on_name_or_removal(&home(asked.pid, &asked.call))
+                && !is_withdrawal(&asked.call)))
 }
 
 /// The Bounce rule: the leader routes the call once more.
@@ -181,9 +182,9 @@ fn forwarded_by(
 fn may_forward(node: &State, script: &Script, from: Node, asked: &Asked) -> bool
     ensures { result
         ≡ (is_from_leader (node_of node.now) from
-        && (is_node script.now asked.now.caller && not (is_waiting asked.now.call))) }
+        && (is_node script.now asked.now.caller && not (is_withdrawal asked.now.call))) }
 {
-    node.is_from_leader(from) && (is_node(script, asked.caller) && !is_waiting(&asked.call))
+    node.is_from_leader(from) && (is_node(script, asked.caller) && !is_withdrawal(&asked.call))
 }
 
 /// The Forward rule: the owner serves the call; a number that isn't given out yet names nothing; else the name has
@@ -241,7 +242,7 @@ pub fn take_request(
     requires sound { IsSoundScript script.now }
     ensures { Turns (take_request script.now (node_of step.old.node) from ticket pid call) step.old step.new result }
 {
-    if !step.node.is_born() || from == step.node.number() || is_waiting(&call) {
+    if !step.node.is_born() || from == step.node.number() || is_withdrawal(&call) {
         return Err(TurnFault::NotAllowed);
     }
     let home = home(pid, &call);

@@ -5,18 +5,18 @@ ghost use Rattle.kernel_model.specs.Script.{IsSoundScript};
 ghost use Rattle.node_model.specs.Directory.{route};
 ghost use Rattle.node_model.specs.declared.route.Route.TheVariants as routes;
 ghost use Rattle.world_model.specs.Serving.{serve_asked};
-ghost use Rattle.world_model.specs.Routes.{forward, recall_and_hold, remove_by, remove_here, route_by, route_call, route_home, unbind_name};
+ghost use Rattle.world_model.specs.Routes.{cancel, cancel_by, forward, recall_and_hold, remove_by, remove_here, route_by, route_call, route_cancel, route_held, route_home, unbind_name};
 ghost use Rattle.node_state.specs.State.{node_of, step_of};
 ghost use Rattle.route_rules.specs.Asking.{asked_by, may_route_by};
 
 use crate::keys::{get_by_key, may_get_by_key};
 use crate::moving::{hold_item, recall_from};
 use node_model::{Held, Route};
-use node_state::forms::is_waiting;
+use node_state::forms::withdrawn_from;
 use node_state::{Growing, State, unreached};
 use pico_base::{Call, Home, Memory, Name, Node, Pid, Script, home};
 use rpc_frame::{Asked, Frame};
-use serve_rules::{serve_asked, serve_nobody};
+use serve_rules::{serve_asked, serve_nobody, withdraw_here};
 
 /// A call on a name goes to the node where the name is, or the node that was given its number.
 fn forward(step: &mut Growing, to: Node, asked: Asked) -> Result<(), Memory>
@@ -141,13 +141,12 @@ fn remove_by(
     }
 }
 
-/// Whether a call on a name can be routed: where the name is at this node, it is held here, and the call doesn't wait.
-fn may_route_by(node: &State, name: &Name, call: &Call) -> bool
-    ensures { result
-        ≡ may_route_by (node_of node.now) name.now call.now (route node.now.leader.directory name.now) }
+/// Whether a call on a name can be routed: where the name is at this node, it is held here.
+fn may_route_by(node: &State, name: &Name) -> bool
+    ensures { result ≡ may_route_by (node_of node.now) name.now (route node.now.leader.directory name.now) }
 {
     // Where the call can be carried out here, the directory isn't asked.
-    if node.holds(*name) && !is_waiting(call) {
+    if node.holds(*name) {
         return true;
     }
     match route_of(node, name) {
@@ -164,7 +163,7 @@ pub fn may_route(step: &Growing, pid: Pid, call: &Call) -> bool
     match home(pid, call) {
         Home::Own | Home::Parent => false,
         Home::Keys => may_get_by_key(step, call),
-        Home::At(name) | Home::Removal(name) => may_route_by(&step.node, &name, call),
+        Home::At(name) | Home::Removal(name) => may_route_by(&step.node, &name),
     }
 }
 
@@ -194,4 +193,74 @@ pub fn route_call(step: &mut Growing, script: &Script, asked: Asked) -> Result<(
 {
     let home = home(asked.pid, &asked.call);
     route_home(step, script, asked, home)
+}
+
+/// A withdrawal goes to this node.
+pub(crate) fn cancel(step: &mut Growing, to: Node, asked: Asked) -> Result<(), Memory>
+    ensures { OnOk result (step_of step.new ≡ cancel (step_of step.old) to asked) }
+{
+    step.send(to, Frame::Cancel { asked })
+}
+
+/// A withdrawal at a name that is at this node, or at another one.
+fn cancel_at(
+    step: &mut Growing,
+    script: &Script,
+    name: &Name,
+    asked: Asked,
+    node: Node,
+) -> Result<(), Memory>
+    requires sound { IsSoundScript script.now }
+    ensures { OnOk result
+        (step_of step.new ≡ cancel_by script.now (step_of step.old) name.now asked (routes.At node)) }
+{
+    if is_here(&step.node, node) {
+        withdraw_here(step, script, name, asked)
+    } else {
+        cancel(step, node, asked)
+    }
+}
+
+/// A withdrawal, by where its name is. Where that is nobody's nothing is done.
+fn cancel_by(
+    step: &mut Growing,
+    script: &Script,
+    name: &Name,
+    asked: Asked,
+    route: Route,
+) -> Result<(), Memory>
+    requires sound { IsSoundScript script.now }
+    ensures { OnOk result (step_of step.new ≡ cancel_by script.now (step_of step.old) name.now asked route) }
+{
+    match route {
+        Route::At(node) => cancel_at(step, script, name, asked, node),
+        Route::Coming => hold_item(step, *name, Held::Request(asked)),
+        Route::Range(node) => cancel(step, node, asked),
+        Route::Nobody => Ok(()),
+    }
+}
+
+/// A withdrawal goes the way of its call, which is in front of it.
+pub fn route_cancel(
+    step: &mut Growing,
+    script: &Script,
+    name: &Name,
+    asked: Asked,
+) -> Result<(), Memory>
+    requires sound { IsSoundScript script.now }
+    ensures { OnOk result (step_of step.new ≡ route_cancel script.now (step_of step.old) name.now asked) }
+{
+    let route = route_of(&step.node, name);
+    cancel_by(step, script, name, asked, route)
+}
+
+/// What the leader held is routed: a call, or the end of a wait. Memory, too, where the leader can't route it.
+pub fn route_held(step: &mut Growing, script: &Script, asked: Asked) -> Result<(), Memory>
+    requires sound { IsSoundScript script.now }
+    ensures { OnOk result (route_held script.now (step_of step.old) asked ≡ Some (step_of step.new)) }
+{
+    match withdrawn_from(&asked.call) {
+        Some(name) => route_cancel(step, script, &name, asked),
+        None => route_call(step, script, asked),
+    }
 }

@@ -1,2 +1,3 @@
 mod Making
-mod Outcomes
+mod Here
+mod Served

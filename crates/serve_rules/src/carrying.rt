@@ -1,19 +1,26 @@
 //! A call is carried out on the deed that is held for it.
-ghost use Rattle.std.specs.Prelude.{◌≡◌, IfOk, IfSome, IsTrue};
-ghost use Rattle.kernel_model.specs.Effect.{reply_alone};
-ghost use Rattle.node_model.specs.Carrying.{is_served, makes_or_ends};
+ghost use Rattle.std.specs.Prelude.{◌≡◌, [], IfOk, IfSome, IsTrue, Some, map};
+ghost use Rattle.std.specs.List.{filter};
+ghost use Rattle.node_model.specs.Carrying.{makes_or_ends};
+ghost use Rattle.node_model.specs.Serving.{name_for};
 ghost use Rattle.serve_laws.specs.Served.{MakesOwn};
-ghost use Rattle.node_model.specs.Kinds.{get_named};
+ghost use Rattle.pico_base.specs.declared.numbers.Name.{Name as Names};
+ghost use Rattle.waiting_model.specs.declared.callers.Waiting.{Waiting as Waits};
+ghost use Rattle.node_model.specs.Kinds.{Named, get_named};
+ghost use Rattle.node_serve.specs.declared.body.Body.{Body as Carried};
 ghost use Rattle.node_serve.specs.Bodies.{body_of};
+ghost use Rattle.node_serve.specs.Callers.{waiting_with};
 ghost use Rattle.node_serve.specs.Spelled.{suits};
-ghost use Rattle.node_serve.specs.Serving.{IsDefined, MayMake};
+ghost use Rattle.node_serve.specs.Serving.{MayMake, may_be_served, reads_among};
+ghost use Rattle.serve_rules.specs.Held.{IsServed, IsServedHere};
 
 use deed_box::{Deeds, Shared};
-use node_serve::{Body, Served, serve};
-use node_state::forms::is_waiting;
+use node_serve::{Body, Readers, Served, Who, name_for, serve};
+use node_state::forms::is_withdrawal;
 use node_state::unreached;
-use pico_base::{Call, Home, Memory, Name, Outcome, Pid, Reply, home};
+use pico_base::{Call, Home, Memory, Name, Node, Pid, Reply, home};
 use std::alloc::Global;
+use waiting_model::{Wake, Wakes};
 
 /// Whether the call takes a number, gets something by a key, or ends its process.
 fn makes_or_ends(call: &Call) -> bool
@@ -26,11 +33,11 @@ fn makes_or_ends(call: &Call) -> bool
     }
 }
 
-/// Whether the call is one that is carried out on a deed alone, and at once.
-fn is_served(call: &Call) -> bool
-    ensures { result ≡ is_served call.now }
+/// Whether the call is one that is carried out on a deed alone.
+fn may_be_served(call: &Call) -> bool
+    ensures { result ≡ may_be_served call.now }
 {
-    !makes_or_ends(call) && !is_waiting(call)
+    !makes_or_ends(call) && !is_withdrawal(call)
 }
 
 /// Whether this body is of a process that lives and isn't its own child.
@@ -76,33 +83,103 @@ fn may_make(deeds: &Deeds<Body>, caller: Pid, call: &Call) -> bool
     }
 }
 
-/// The reply of an outcome.
-fn reply_of(outcome: Outcome) -> Option<Reply>
-    ensures { result ≡ outcome.own }
+/// Whether the call is carried out on this name.
+fn is_on(name: &Name, caller: Pid, call: &Call) -> bool
+    ensures { IsTrue result → name_for caller call.now ≡ Some name.now }
 {
-    let Outcome { own, woken: _ } = outcome;
-    own
+    match name_for(caller, call) {
+        Some(other) => other == *name,
+        None => false,
+    }
 }
 
-/// The call is carried out on the deed of its name: its reply, and whether it read. Memory, too, where the deed isn't
-/// held or its body doesn't go with its name, and for a call that isn't carried out on a deed alone and at once.
+/// The nodes of those who are woken and whose calls have read, in order.
+#[inline(never)]
+fn nodes_of(alloc: Global, wakes: &[Wake], readers: &Readers) -> Result<Vec<Node>, Memory>
+    ensures { IfOk result (λ nodes. nodes.items
+        ≡ map (λ w. w.caller) (filter (reads_among readers.now) wakes.now)) }
+{
+    let mut nodes = Vec::new(alloc);
+    for wake in wakes {
+        if readers.have(wake) {
+            nodes.push(wake.caller)?;
+        }
+    }
+    Ok(nodes)
+}
+
+/// What serving a call came to.
+#[derive(Drop)]
+pub(crate) enum Held {
+    /// It was carried out, its caller has this reply, and nobody is woken. `reads` says whether it read.
+    AtOnce {
+        reply: Reply,
+        reads: bool,
+    },
+    /// It was carried out. Its caller has a reply, or has to wait where there is none; those who are woken are in
+    /// order.
+    /// `reads` says whether it read, and `readers` has the nodes of the woken whose calls did.
+    Did {
+        own: Option<Reply>,
+        wakes: Wakes,
+        reads: bool,
+        readers: Vec<Node>,
+    },
+    /// There is no room for one more who waits at the name, or the process waits there already: nothing was done.
+    NotAdmitted,
+}
+
+/// What a call came to that woke nobody.
+#[inline(always)]
+fn unwoken(alloc: Global, own: Option<Reply>, reads: bool) -> Held
+    ensures { (old : Named Carried) (name : Names) (who : Waits) (new : Named Carried)
+        → IsServed old name who new own [] reads [] → IsServedHere old name who new result }
+{
+    match own {
+        Some(reply) => Held::AtOnce { reply, reads },
+        None => Held::Did {
+            own: None,
+            wakes: Wakes::new(alloc),
+            reads,
+            readers: Vec::new(alloc),
+        },
+    }
+}
+
+/// The call is carried out on the deed of its name. Memory, too, where the name isn't its own, the deed isn't held or
+/// its body doesn't go with its name, and for a call that isn't carried out on a deed alone.
 pub(crate) fn serve_held(
     alloc: Global,
     deeds: &mut Deeds<Body>,
-    caller: Pid,
+    name: &Name,
+    who: &Who,
     call: &Call,
-) -> Result<(Reply, bool), Memory>
-    ensures { IfOk result (λ served.
-        IsDefined deeds.old.bodies caller call.now deeds.new.bodies (reply_alone served.0) served.1) }
+) -> Result<Held, Memory>
+    ensures { IfOk result
+        (IsServedHere deeds.old.bodies name.now (waiting_with who.now call.now) deeds.new.bodies) }
 {
-    if !is_served(call) || !may_make(deeds, caller, call) {
+    if !may_be_served(call) || !may_make(deeds, who.pid, call) || !is_on(name, who.pid, call) {
         return Err(unreached());
     }
-    let Served::Did { outcome, reads } = serve(alloc, deeds, caller, call)? else {
-        return Err(unreached());
-    };
-    let Some(reply) = reply_of(outcome) else {
-        return Err(unreached());
-    };
-    Ok((reply, reads))
+    match serve(alloc, deeds, who, call)? {
+        Served::Did {
+            own,
+            wakes,
+            reads,
+            readers,
+        } => {
+            if wakes.len() == 0 {
+                return Ok(unwoken(alloc, own, reads));
+            }
+            let readers = nodes_of(alloc, wakes.as_slice(), &readers)?;
+            Ok(Held::Did {
+                own,
+                wakes,
+                reads,
+                readers,
+            })
+        }
+        Served::NotAdmitted => Ok(Held::NotAdmitted),
+        Served::NotHeld => Err(unreached()),
+    }
 }

@@ -1,12 +1,15 @@
 //! A name moves to the node that reads it.
-ghost use Rattle.std.specs.Prelude.{◌≡◌, OnOk, Some, if◌then◌else◌};
+ghost use Rattle.std.specs.Prelude.{◌≡◌, ◌∷◌, [], IfOk, OnOk, Some, if◌then◌else◌};
 ghost use Rattle.node_model.specs.Directory.{stays};
-ghost use Rattle.world_model.specs.Serving.{grant, move_to, note_read};
+ghost use Rattle.node_model.specs.Watches.{last_move, later, with_reads};
+ghost use Rattle.world_model.specs.Serving.{grant, move_to, note_reads};
 ghost use Rattle.node_state.specs.State.{step_of};
+ghost use Rattle.serve_rules.specs.Held.{nodes_with};
 
-use node_state::{Growing, LEADER, unreached};
+use node_state::{Growing, LEADER, Watches, unreached};
 use pico_base::{Memory, Name, Node};
 use rpc_frame::Frame;
+use std::alloc::Global;
 
 /// The leader sends a deed that it holds to a node, which is the name's place from now on.
 fn grant_held(step: &mut Growing, name: &Name, to: Node) -> Result<(), Memory>
@@ -64,12 +67,105 @@ fn move_to(step: &mut Growing, name: &Name, to: Node) -> Result<(), Memory>
 
 /// The watch notes the node that read.
 #[inline(always)]
-pub(crate) fn note_read(step: &mut Growing, name: &Name, reader: Node) -> Result<(), Memory>
-    ensures { OnOk result (step_of step.new ≡ note_read (step_of step.old) name.now reader) }
+fn note_read(step: &mut Growing, name: &Name, reader: Node) -> Result<(), Memory>
+    ensures { OnOk result (step_of step.new ≡ note_reads (step_of step.old) name.now (reader ∷ [])) }
 {
     let owner = step.node.number();
     match step.node.watches.read(owner, *name, reader)? {
         Some(to) => move_to(step, name, to),
         None => Ok(()),
     }
+}
+
+/// The later of two nodes to which a name would move.
+fn later(to: Option<Node>, before: Option<Node>) -> Option<Node>
+    ensures { result ≡ later to before }
+{
+    match to {
+        Some(node) => Some(node),
+        None => before,
+    }
+}
+
+/// Nodes read a name that this node owns, one after another. The node to which it moves then.
+fn read_all(
+    watches: &mut Watches,
+    owner: Node,
+    name: &Name,
+    readers: &[Node],
+) -> Result<Option<Node>, Memory>
+    ensures moves { IfOk result (λ to. to ≡ last_move watches.old owner name.now readers.now) }
+    ensures noted { OnOk result (watches.new ≡ with_reads watches.old owner name.now readers.now) }
+{
+    match readers {
+        [] => Ok(None),
+        [reader, rest @ ..] => {
+            let to = watches.read(owner, *name, *reader)?;
+            let next = read_all(watches, owner, name, rest)?;
+            Ok(later(next, to))
+        }
+    }
+}
+
+/// The watch notes these nodes, one after another.
+fn note_all(step: &mut Growing, name: &Name, readers: &[Node]) -> Result<(), Memory>
+    ensures { OnOk result (step_of step.new ≡ note_reads (step_of step.old) name.now readers.now) }
+{
+    let owner = step.node.number();
+    match read_all(&mut step.node.watches, owner, name, readers)? {
+        Some(to) => move_to(step, name, to),
+        None => Ok(()),
+    }
+}
+
+/// The node, if it reads, and behind it the others.
+fn all_readers(
+    alloc: Global,
+    caller: Node,
+    reads: bool,
+    readers: &[Node],
+) -> Result<Vec<Node>, Memory>
+    ensures { IfOk result (λ nodes. nodes.items ≡ nodes_with caller reads readers.now) }
+{
+    let mut nodes = Vec::with_capacity(alloc, readers.len())?;
+    if reads {
+        nodes.push(caller)?;
+    }
+    nodes.extend_from_slice(readers)?;
+    Ok(nodes)
+}
+
+/// The watch notes the caller's node, if its call reads.
+#[inline(always)]
+pub(crate) fn note_caller(
+    step: &mut Growing,
+    name: &Name,
+    caller: Node,
+    reads: bool,
+) -> Result<(), Memory>
+    ensures { OnOk result (step_of step.new ≡ note_reads (step_of step.old) name.now (nodes_with caller reads [])) }
+{
+    if reads {
+        note_read(step, name, caller)
+    } else {
+        Ok(())
+    }
+}
+
+/// The watch notes the nodes that read: the caller's, if its call does, and then those of the woken.
+pub(crate) fn note_reads(
+    step: &mut Growing,
+    name: &Name,
+    caller: Node,
+    reads: bool,
+    readers: &[Node],
+) -> Result<(), Memory>
+    ensures { OnOk result
+        (step_of step.new ≡ note_reads (step_of step.old) name.now (nodes_with caller reads readers.now)) }
+{
+    if readers.len() > 0 {
+        let nodes = all_readers(step.node.alloc, caller, reads, readers)?;
+        return note_all(step, name, nodes.as_slice());
+    }
+    note_caller(step, name, caller, reads)
 }

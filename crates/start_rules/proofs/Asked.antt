@@ -22,12 +22,13 @@ chosen b x y is = ap (λ (t : Bool). if t then x else y) is
 
 -- at the leader, whatever its caller and its cache are
 pub not-asked : (script : Script) (step : Step) (caller : Caller) (cache : Cache) (call : Call)
-    → is_leader step.node ≡ true → route_call script step (asked_by 0 0 step.node.pid call) ≡ None
+    → is_leader step.node ≡ true
+    → route_call script step (asked_by step.node.number caller.ticket step.node.pid call) ≡ None
     → ask script (aside step caller cache) call ≡ None
 not-asked script step caller cache call leads none =
     chosen (is_leader step.node)
     (route_call script (aside step caller cache) (asked_here (aside step caller cache).node call)) _ leads
-    ∙ no-route script script step caller cache 0 step.node.number 0 caller.ticket step.node.pid call none
+    ∙ no-route script step caller cache (asked_by step.node.number caller.ticket step.node.pid call) none
 
 -- a call that can't be asked for isn't started, where it is about the keys or a removal
 pub not-started : (script : Script) (step : Step) (call : Call) (row : Row) (home : Home)

@@ -10,12 +10,12 @@ ghost use Rattle.node_state.specs.Started.{can_start, started};
 ghost use Rattle.node_state.specs.State.{node_of, step_of};
 ghost use Rattle.start_rules.specs.Started.{aside};
 
-use crate::beginning::begin;
+use node_state::forms::may_park;
 use node_state::{Growing, LEADER};
 use pico_base::{Call, Memory, Name, Node, Script};
 use route_rules::{may_route, route_call};
 use rpc_frame::Frame;
-use serve_rules::serve_at_once;
+use serve_rules::{begin, serve_at_once};
 
 /// Whether the call can be asked for: the leader has to be able to route its own.
 pub(crate) fn may_ask(step: &Growing, call: &Call) -> bool
@@ -80,6 +80,7 @@ fn request(
 }
 
 /// The call is under way, and the leader routes it, or is asked to.
+#[inline(never)]
 pub(crate) fn start_ask(step: &mut Growing, script: &Script, call: Call) -> Result<(), Memory>
     requires sound { IsSoundScript script.now }
     requires can_start { IsTrue (can_start (node_of step.old.node)) }
@@ -90,6 +91,7 @@ pub(crate) fn start_ask(step: &mut Growing, script: &Script, call: Call) -> Resu
 }
 
 /// The call is under way, and the owner of its name is asked, which the cache may know.
+#[inline(never)]
 fn start_request(step: &mut Growing, script: &Script, call: Call, name: &Name) -> Result<(), Memory>
     requires sound { IsSoundScript script.now }
     requires can_start { IsTrue (can_start (node_of step.old.node)) }
@@ -103,7 +105,8 @@ fn start_request(step: &mut Growing, script: &Script, call: Call, name: &Name) -
     request(step, script, call, owner)
 }
 
-/// A call on a name that is held here is served; else it is under way, and the owner is asked.
+/// A call on a name that is held here is served; else it is under way, and the owner is asked. One that may have to
+/// wait is asked of the leader alone: a withdrawal that follows it then finds the name's owner by the same way.
 pub(crate) fn start_at(
     step: &mut Growing,
     script: &Script,
@@ -117,6 +120,8 @@ pub(crate) fn start_at(
 {
     if step.node.holds(*name) {
         serve_at_once(step, script, *name, call)
+    } else if may_park(&call) {
+        start_ask(step, script, call)
     } else {
         start_request(step, script, call, name)
     }

@@ -10,12 +10,12 @@ ghost use Rattle.node_serve.specs.Bodies.{bodies_of, row_of};
 ghost use Rattle.node_state.specs.Started.{can_start, started};
 ghost use Rattle.node_state.specs.State.{node_of, step_of};
 
-use crate::beginning::begin;
 use deed_box::Deeds;
 use node_serve::{Body, Row, bury};
 use node_state::{Growing, LEADER, Stage, State, unreached};
 use pico_base::{Call, Memory, Pid, Reply, Script};
 use rpc_frame::Frame;
+use serve_rules::begin;
 use std::alloc::Global;
 
 /// These processes are gone.
@@ -89,6 +89,7 @@ fn end(step: &mut Growing, script: &Script, call: Call) -> Result<(), Memory>
 }
 
 /// The last call is under way, and the process ends. Memory, too, where its row isn't here.
+#[inline(never)]
 pub(crate) fn start_end(step: &mut Growing, script: &Script, call: Call) -> Result<(), Memory>
     requires sound { IsSoundScript script.now }
     requires can_start { IsTrue (can_start (node_of step.old.node)) }

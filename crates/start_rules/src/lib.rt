@@ -3,7 +3,6 @@
 
 mod answers;
 mod asking;
-mod beginning;
 mod ending;
 mod making;
 mod starting;

@@ -10,13 +10,12 @@ ghost use Rattle.world_model.specs.Step.{carry_out};
 ghost use Rattle.node_state.specs.Started.{can_start, started};
 ghost use Rattle.node_state.specs.State.{node_of, step_of};
 
-use crate::beginning::begin;
 use node_state::forms::is_bad_count;
 use node_state::{Growing, LEADER};
 use number_rules::{make, may_take_number};
 use pico_base::{Call, Errno, Kind, Memory, Reply, Script};
 use rpc_frame::Frame;
-use serve_rules::act_at_once;
+use serve_rules::{act_at_once, begin};
 
 /// Whether a call that takes a number of the kind can be carried out, or the leader asked for more numbers.
 fn may_make(step: &Growing, call: &Call, kind: Kind) -> bool
@@ -102,6 +101,7 @@ fn begin_set(step: &mut Growing, script: &Script, call: Call, count: u32) -> Res
 }
 
 /// A call of the process on itself is started and carried out, or the leader is asked for the number that it takes.
+#[inline(never)]
 pub(crate) fn start_own(step: &mut Growing, script: &Script, call: Call) -> Result<(), Memory>
     requires sound { IsSoundScript script.now }
     requires can_start { IsTrue (can_start (node_of step.old.node)) }

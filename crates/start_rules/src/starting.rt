@@ -16,7 +16,7 @@ ghost use Rattle.start_rules.specs.Own.{IsOwnCall, is_act, start_doomed};
 use crate::asking::{may_ask, start_ask, start_at};
 use crate::ending::start_end;
 use crate::making::{may_start_own, start_own};
-use node_state::forms::is_waiting;
+use node_state::forms::is_withdrawal;
 use node_state::{Growing, State, TurnFault, unreached};
 use pico_base::{Call, Home, Memory, Script, Sig, home};
 use serve_rules::act_lent;
@@ -57,6 +57,7 @@ fn may_start(step: &Growing, call: &Call, home: &Home) -> bool
 }
 
 /// The call is under way, and is carried out here, or others are asked to.
+#[inline(always)]
 fn start_by(step: &mut Growing, script: &Script, call: Call, home: Home) -> Result<(), Memory>
     requires sound { IsSoundScript script.now }
     requires can_start { IsTrue (can_start (node_of step.old.node)) }
@@ -72,6 +73,7 @@ fn start_by(step: &mut Growing, script: &Script, call: Call, home: Home) -> Resu
 }
 
 /// The call due is started.
+#[inline(never)]
 fn start(step: &mut Growing, script: &Script, call: Call) -> Result<(), TurnFault>
     requires fresh { IsFresh step.old }
     requires sound { IsSoundScript script.now }
@@ -79,7 +81,7 @@ fn start(step: &mut Growing, script: &Script, call: Call) -> Result<(), TurnFaul
     ensures { (row : AtRow) → own_row (node_of step.old.node) ≡ Some row
         → Turns (start script.now (node_of step.old.node) row call) step.old step.new result }
 {
-    if is_waiting(&call) {
+    if is_withdrawal(&call) {
         return Err(TurnFault::NotAllowed);
     }
     let home = home(step.node.pid, &call);
@@ -136,6 +138,7 @@ fn start_lent(step: &mut Growing, script: &Script, call: &Call) -> Result<(), Tu
 }
 
 /// The call due is made, and started.
+#[inline(always)]
 fn start_made(step: &mut Growing, script: &Script, doom: Option<Sig>) -> Result<(), TurnFault>
     requires fresh { IsFresh step.old }
     requires sound { IsSoundScript script.now }
@@ -150,6 +153,7 @@ fn start_made(step: &mut Growing, script: &Script, doom: Option<Sig>) -> Result<
 }
 
 /// The call due is started where no signal dooms the process. One on the process itself is lent by the script.
+#[inline(always)]
 fn start_undoomed(step: &mut Growing, script: &Script) -> Result<(), TurnFault>
     requires fresh { IsFresh step.old }
     requires sound { IsSoundScript script.now }
@@ -164,6 +168,7 @@ fn start_undoomed(step: &mut Growing, script: &Script) -> Result<(), TurnFault>
 }
 
 /// The call due is started, by whether a signal dooms the process.
+#[inline(always)]
 fn start_due(step: &mut Growing, script: &Script, doom: Option<Sig>) -> Result<(), TurnFault>
     requires fresh { IsFresh step.old }
     requires sound { IsSoundScript script.now }
@@ -180,8 +185,8 @@ fn start_due(step: &mut Growing, script: &Script, doom: Option<Sig>) -> Result<(
 /// The run rule: the node's process starts its call due, which is carried out here or asked for.
 ///
 /// NotAllowed where the process makes no calls, one is under way, all its tickets are used, its row isn't here, or no
-/// call is due; where the call may have to wait; and where there is no number left for it, or the leader can't route a
-/// get by a key or a removal. Memory, too, where the process is doomed and no line is left, and where the leader can't
+/// call is due; where the call ends a wait; and where there is no number left for it, or the leader can't route a get
+/// by a key or a removal. Memory, too, where the process is doomed and no line is left, and where the leader can't
 /// route a call on a name: no run leads there.
 pub fn run(step: &mut Growing, script: &Script) -> Result<(), TurnFault>
     requires fresh { IsFresh step.old }

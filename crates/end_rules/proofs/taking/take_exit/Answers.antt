@@ -9,7 +9,7 @@ returns-then-not-lets_end c =
     let off : c.lets_end.result ≡ false = cc
     in (
       none-if _ _
-          (no-exit-by (step_to (node_of c.args.step.now.node)) c.args.step.now.node.deeds.bodies c.args.parcel refl
-          (sym c.lets_end.ensures ∙ off)),
+          (no-exit-by c.args.script.now (step_to (node_of c.args.step.now.node)) c.args.step.now.node.deeds.bodies
+          c.args.parcel refl (sym c.lets_end.ensures ∙ off)),
       refl,
     )

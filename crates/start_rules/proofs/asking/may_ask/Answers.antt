@@ -6,5 +6,7 @@ use Rattle.start_rules.proofs.asking.may_ask.Goals as goal
 pub returns-else-not-is_leader : goal.returns-else-not-is_leader
 returns-else-not-is_leader c =
     λ script caller cache none.
-    not-asked script (step_of c.args.step.now) caller cache c.args.call.now
-    (sym c.is_leader.ensures ∙ c.if-not-is_leader.false) (c.may_route.ensures script 0 0 none)
+    let step = step_of c.args.step.now
+    in not-asked script step caller cache c.args.call.now
+    (sym c.is_leader.ensures ∙ c.if-not-is_leader.false)
+    (c.may_route.ensures script step.node.number caller.ticket none)

@@ -5,7 +5,8 @@ pub returns-in-Some-written_line : goal.returns-in-Some-written_line
 returns-in-Some-written_line c =
     due-line c.args.script.now c.args.self.now c.self.inside.block c.self.inside.line c.self.inside.tried
     c.self.inside.ticket c.self.inside.variables
-    c.self.inside.under_way c.in-Some-written_line.line.now c.args.doom c.call_of.result c.self.view_is c.requires
+    c.self.inside.under_way c.self.inside.noted c.in-Some-written_line.line.now c.args.doom c.call_of.result
+    c.self.view_is c.requires
     c.in_default.is
     c.in-Some-written_line.ensures c.call_of.ensures
 
@@ -13,4 +14,5 @@ pub returns-in-None : goal.returns-in-None
 returns-in-None c =
     due-end c.args.script.now c.args.self.now c.self.inside.block c.self.inside.line c.self.inside.tried
     c.self.inside.ticket c.self.inside.variables
-    c.self.inside.under_way c.args.doom c.self.view_is c.requires c.in_default.is c.in-None.ensures
+    c.self.inside.under_way c.self.inside.noted c.args.doom c.self.view_is c.requires c.in_default.is
+    c.in-None.ensures
