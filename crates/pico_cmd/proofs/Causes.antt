@@ -4,35 +4,39 @@ use Rattle.pico_words.specs.declared.words.Request.{Request}
 use Rattle.pico_words.specs.declared.words.Request.TheVariants.{Run, Simulate, Check, Generate, Boxes}
 use Rattle.pico_cmd.specs.declared.status.Status.{Status}
 use Rattle.pico_cmd.specs.declared.status.Status.TheVariants as status
-use Rattle.pico_cmd.specs.Promise.{EachCause, IsOrStops, IsWritten}
+use Rattle.pico_cmd.specs.Promise.{EachCause, IsOrStops, IsWritten, OrStalled}
+
+or_stalled : (P Q : Status → Type 0) → ((s : Status) → P s → Q s) → (s : Status) → OrStalled P s → OrStalled Q s
+or_stalled P Q f s (inl h) = inl (f s h)
+or_stalled P Q f s (inr h) = inr (h.0, f status.Stalled h.1)
 
 -- what follows from a cause's status goes over to what follows from that
 each_cause : (asked : Option Request) (left : Option (List ℕ)) (P Q : Status → Type 0) → ((s : Status) → P s → Q s)
     → EachCause asked left P → EachCause asked left Q
 each_cause None left P Q f h = tt
 each_cause (Some (Run steps)) None P Q f h = tt
-each_cause (Some (Run steps)) (Some bytes) P Q f h = λ s c. f s (h s c)
+each_cause (Some (Run steps)) (Some bytes) P Q f h = λ s c. or_stalled P Q f s (h s c)
 each_cause (Some (Simulate o)) None P Q f h = tt
-each_cause (Some (Simulate o)) (Some bytes) P Q f h = λ s c. f s (h s c)
+each_cause (Some (Simulate o)) (Some bytes) P Q f h = λ s c. or_stalled P Q f s (h s c)
 each_cause (Some Check) None P Q f h = tt
 each_cause (Some Check) (Some bytes) P Q f h = λ s c. f s (h s c)
 each_cause (Some (Generate o)) left P Q f h = λ s c. f s (h s c)
 each_cause (Some Boxes) None P Q f h = tt
-each_cause (Some Boxes) (Some bytes) P Q f h = λ s c. f s (h s c)
+each_cause (Some Boxes) (Some bytes) P Q f h = λ s c. or_stalled P Q f s (h s c)
 
 -- what holds of each status follows from each cause
 each_always : (asked : Option Request) (left : Option (List ℕ)) (Q : Status → Type 0) → ((s : Status) → Q s)
     → EachCause asked left Q
 each_always None left Q f = tt
 each_always (Some (Run steps)) None Q f = tt
-each_always (Some (Run steps)) (Some bytes) Q f = λ s c. f s
+each_always (Some (Run steps)) (Some bytes) Q f = λ s c. inl (f s)
 each_always (Some (Simulate o)) None Q f = tt
-each_always (Some (Simulate o)) (Some bytes) Q f = λ s c. f s
+each_always (Some (Simulate o)) (Some bytes) Q f = λ s c. inl (f s)
 each_always (Some Check) None Q f = tt
 each_always (Some Check) (Some bytes) Q f = λ s c. f s
 each_always (Some (Generate o)) left Q f = λ s c. f s
 each_always (Some Boxes) None Q f = tt
-each_always (Some Boxes) (Some bytes) Q f = λ s c. f s
+each_always (Some Boxes) (Some bytes) Q f = λ s c. inl (f s)
 
 written_or_stops : (got : Status) (text : List ℕ) (old new : Option (List ℕ)) (cause : Type 0) (r s : Status)
     → IsWritten got text old new cause r → got ≡ s → IsOrStops r s

@@ -1,6 +1,5 @@
 -- What a run ends in, and its text.
-use Rattle.std.proofs.Common.{◌≡◌, List, [], ◌∷◌, ◌++◌, ℕ, Bool, true, false, Result, Ok, Err, refl, sym, ap, subst, ◌∙◌}
-use Rattle.std.specs.Prelude.{IfOk}
+use Rattle.std.proofs.Common.{◌≡◌, List, [], ◌∷◌, ◌++◌, ℕ, Bool, true, false, refl, sym, ap, ◌∙◌}
 use Rattle.pico_base.specs.declared.script.Event.{Event}
 use Rattle.pico_base.specs.declared.script.Script.{Script}
 use Rattle.kernel_model.specs.Trace.{totals_line, trace_text}
@@ -18,11 +17,11 @@ pub runs_keep : (w last : World) (es : List Event) → Runs w es last → last.s
 runs_keep w last [] r = ap (λ (x : World). x.script) (sym r)
 runs_keep w last (e ∷ es) r = runs_keep r.next last es r.rest ∙ step_script w e r.next r.steps
 
--- what is told of a run comes to such a text
-abbrev pub Gives : {E : Type 0} → Telling → Bool → List Event → Result (List ℕ) E → Type 0
-Gives telling steps es r =
+-- what is told of a run comes to this text
+abbrev pub GivesText : Telling → Bool → List Event → List ℕ → Type 0
+GivesText telling steps es text =
     (script : Script) (history : List Entry) → Tells script history telling
-    → IfOk r (λ text. text ≡ (lines_if telling.lines script history ++ totals_line history) ++ steps_if steps es)
+    → text ≡ (lines_if telling.lines script history ++ totals_line history) ++ steps_if steps es
 
 -- the events that were kept have the text of all
 kept_text : (steps : Bool) (kept events : List Event) → kept ≡ kept_if steps events
@@ -31,17 +30,17 @@ kept_text true kept events are = ap (steps_if true) are
 kept_text false kept events are = refl
 
 -- the text of a run is that of the script's
-pub text_told : {E : Type 0} (script : Script) (options : Options) (es : List Event) (telling : Telling)
-    (r : Result (List ℕ) E)
-    → IsToldRun script options.seed options.steps es telling → telling.lines ≡ true → Gives telling options.steps es r
-    → IfOk r (IsTextOfRun script options)
-text_told script options es telling (Err e) run wanted gives = tt
-text_told script options es telling (Ok text) run wanted gives =
+pub text_told : (script : Script) (options : Options) (es : List Event) (stalled : Bool) (telling : Telling)
+    (text : List ℕ)
+    → IsToldRun script options.seed options.steps es stalled telling → telling.lines ≡ true
+    → GivesText telling options.steps es text → IsTextOfRun script options stalled text
+text_told script options es stalled telling text run wanted gives =
     let last : World = run.last
     in record {
       events = run.events;
       last = last;
       run = run.run;
+      left = run.left;
       is_text = gives last.script last.journal run.tells
           ∙ ap (λ (b : Bool).
           (lines_if b last.script last.journal ++ totals_line last.journal) ++ steps_if options.steps es) wanted

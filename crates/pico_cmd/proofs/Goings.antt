@@ -5,14 +5,14 @@ use Rattle.pico_base.specs.declared.script.Event.{Event}
 use Rattle.kernel_model.specs.Script.{IsSoundScript}
 use Rattle.world_model.specs.World.{World, opening_world, size, node_count, is_enabled}
 use Rattle.world_model.specs.Schedule.{Schedule, choice, schedule_of, schedule_after}
-use Rattle.run_laws.specs.Laws.{JournalsAreLegal, RunsAreShort}
-use Rattle.rest_laws.specs.Laws.{NamesHaveOneOwner, NoneLivesAtRest, RestIsQuiet, RestIsWhole}
-use Rattle.world_core.specs.Laws.{IsWithin, RestIsWhereNothingIsChosen}
+use Rattle.world_model.specs.Run.{is_stalled}
+use Rattle.world_core.specs.Laws.{IsWithin}
 use Rattle.world_core.specs.Stepped.{IsStepped}
 use Rattle.pico_cmd.specs.declared.telling.Telling.{Telling}
 use Rattle.pico_cmd.specs.Telling.{IsToldRun, MakeUp, Tells, kept_if}
-use Rattle.pico_cmd.proofs.Runs.{IsUnderWay, IsUnderWay-start, IsUnderWay-more, IsUnderWay-end, chosen_is_next}
-use Rattle.pico_cmd.proofs.ToldSoFar.{IsWholeStep, world_is_there, within_kept, chosen_in_whole, enabled_in_kept, whole_steps, all_is_told}
+use Rattle.pico_cmd.proofs.RunLaws.{Laws}
+use Rattle.pico_cmd.proofs.Runs.{IsUnderWay, IsUnderWay-start, IsUnderWay-more, IsUnderWay-end, IsUnderWay-left, chosen_is_next}
+use Rattle.pico_cmd.proofs.ToldSoFar.{IsWholeStep, world_is_there, within_kept, chosen_in_whole, enabled_in_kept, stalled_in_whole, whole_steps, all_is_told}
 
 -- where no event was taken none is kept
 none_kept : (steps : Bool) → kept_if steps [] ≡ []
@@ -136,23 +136,24 @@ IsRunning-more script seed lines steps kept more telling told world stepped left
           g.going chosen is s after_it refl keeps same;
     }
 
--- it ends
+-- it ends, and is left so
 pub IsRunning-end : (script : Script) (seed : ℕ) (lines steps : Bool) (kept : List Event) (telling told : Telling)
-    (world left : Option World) (at : Schedule) (r : Option Event)
-    → JournalsAreLegal → RestIsQuiet → NoneLivesAtRest → RestIsWhole → NamesHaveOneOwner → RunsAreShort
-    → RestIsWhereNothingIsChosen → IsSoundScript script
+    (world left : Option World) (at : Schedule) (r : Option Event) (stalled : Bool)
+    → Laws → IsSoundScript script
     → IsRunning script seed lines steps kept telling world at → IfSome world (λ w. r ≡ choice w at) → r ≡ None
+    → IfSome world (λ w. stalled ≡ is_stalled w)
     → KeepsUp telling world told left → IfSome left (λ w. w.journal ≡ [])
-    → IsToldRun script seed steps kept told
-IsRunning-end script seed lines steps kept telling told world left at r legal quiet ended whole owned short rests sound
-    running chosen none keeps nothing =
+    → IsToldRun script seed steps kept stalled told
+IsRunning-end script seed lines steps kept telling told world left at r stalled laws sound running chosen none is keeps
+    nothing =
     let g : IsGoing script seed lines running.taken telling world at = running.going
+    in let over : choice g.whole at ≡ None = chosen_in_whole g.whole telling world at r g.made chosen ∙ none
     in record {
       events = running.taken;
       last = g.whole;
-      run =
-          IsUnderWay-end script seed running.taken g.whole at legal quiet ended whole owned short rests sound g.under
-          (chosen_in_whole g.whole telling world at r g.made chosen ∙ none);
+      run = IsUnderWay-end script seed running.taken g.whole at laws sound g.under over;
+      left = IsUnderWay-left script seed running.taken g.whole at stalled laws sound g.under over
+          (stalled_in_whole g.whole telling world stalled g.made is);
       are_kept = running.are_kept;
       tells = all_is_told g.whole told left (keeps g.whole g.made) nothing;
     }

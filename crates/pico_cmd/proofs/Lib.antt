@@ -3,9 +3,12 @@ pub mod Causes
 pub mod Chosen
 pub mod Ends
 pub mod Goings
+pub mod Left
 pub mod Promises
+pub mod RunLaws
 pub mod Runs
 pub mod Sandboxes
+pub mod ScriptAnswers
 pub mod ToldSoFar
 pub mod Verdicts
 pub mod WorldTexts

@@ -4,7 +4,7 @@ use Rattle.std.proofs.lemmas.Bool.{lt-ltb}
 use Rattle.std.proofs.lemmas.List.{drop_all, take_all, take-take}
 use Rattle.std.proofs.Math.Seq.{drop-append_seam}
 use Rattle.host_iface.specs.Told.{led_by}
-use Rattle.std.specs.Prelude.{Bool, IfErr, IfSome, is_some, nat_lt, true, Result, Ok, Err}
+use Rattle.std.specs.Prelude.{Bool, false, IfErr, IfSome, is_some, nat_lt, true, Result, Ok, Err}
 use Rattle.pico_base.specs.declared.script.Script.{Script}
 use Rattle.script_reader.specs.declared.fault.ScriptFault.{ScriptFault}
 use Rattle.script_reader.specs.Fault.{Reads, IsFirstFault, outcome}
@@ -19,7 +19,9 @@ use Rattle.pico_cmd.specs.Stop.{AreBytesUpTo, IsReadFault, left_behind, most_rea
 use Rattle.script_writer.specs.Generated.{generated}
 use Rattle.pico_run.specs.declared.rested.Rested.{Rested}
 use Rattle.pico_cmd.specs.Threads.{IsTotalsOfThreads}
-use Rattle.pico_cmd.specs.Promise.{Answers, RunsThreads, Simulates, Judges, AnswersTold, Allows, CauseOfSim, CauseOfCheck, CauseOfGen, EachCause, IsWritten, Wrote, WroteFront}
+use Rattle.pico_cmd.specs.Stalled.{are_left_stalled}
+use Rattle.pico_cmd.proofs.Left.{IsEnded, ended_or_stalled}
+use Rattle.pico_cmd.specs.Promise.{Answers, IsTraceOfThreads, OrStalled, RunsThreads, Simulates, Judges, AnswersTold, Allows, CauseOfSim, CauseOfCheck, CauseOfGen, EachCause, IsWritten, Wrote, WroteFront}
 
 -- More bytes than a script has are judged by their front: their fault is that of its size, at the same line.
 front_outcome : (bytes left : List ℕ) → 1048576 < length left → bytes ≡ take 1048577 left
@@ -58,6 +60,8 @@ pub Simulates-left : (o : Options) (bytes left : List ℕ) (s : Status) (text : 
     → AreBytesUpTo 1048576 bytes left → Simulates o bytes s text → Simulates o left s text
 Simulates-left o bytes left status.Done text r a =
     record { script = a.script; reads = sym (outcome_left bytes left r) ∙ a.reads; run = a.run }
+Simulates-left o bytes left status.Stalled text r a =
+    record { script = a.script; reads = sym (outcome_left bytes left r) ∙ a.reads; run = a.run }
 Simulates-left o bytes left status.BadScript text r a =
     record {
       line = a.line;
@@ -71,11 +75,19 @@ Simulates-left o bytes left status.ReadFault text r a = a
 Simulates-left o bytes left status.WriteFault text r a = a
 Simulates-left o bytes left status.NotLegal text r a = a
 
+trace_left : (steps : Bool) (bytes left text : List ℕ) (rested : List Rested)
+    → AreBytesUpTo 1048576 bytes left → IsTraceOfThreads steps bytes text rested
+    → IsTraceOfThreads steps left text rested
+trace_left steps bytes left text rested r a =
+    record { script = a.script; reads = sym (outcome_left bytes left r) ∙ a.reads; run = a.run }
+
 -- and the same for a run with threads
 pub RunsThreads-left : (steps : Bool) (bytes left : List ℕ) (s : Status) (text : List ℕ) (rested : List Rested)
     → AreBytesUpTo 1048576 bytes left → RunsThreads steps bytes s text rested → RunsThreads steps left s text rested
 RunsThreads-left steps bytes left status.Done text rested r a =
-    record { script = a.script; reads = sym (outcome_left bytes left r) ∙ a.reads; run = a.run }
+    (trace_left steps bytes left text rested r a.0, a.1)
+RunsThreads-left steps bytes left status.Stalled text rested r a =
+    (trace_left steps bytes left text rested r a.0, a.1)
 RunsThreads-left steps bytes left status.BadScript text rested r a = (
   record {
     line = a.0.line;
@@ -243,11 +255,13 @@ told_verdict (Some left) bytes read s text rested r few e a none =
 -- The causes of an answer, by the bytes that were left.
 
 sim_cause : (bytes left : List ℕ) (got : Status) → AreBytesUpTo 1048576 bytes left
-    → ((script : Script) → Reads bytes script → got ≡ status.Done)
+    → ((script : Script) → Reads bytes script → IsEnded got)
     → ((line : ℕ) (fault : ScriptFault) → IsFirstFault bytes line fault → got ≡ status.BadScript)
-    → (s : Status) → CauseOfSim left s → got ≡ s
-sim_cause bytes left got r done bad status.Done c = done c.0 (script_read bytes left c.0 r c.1)
-sim_cause bytes left got r done bad status.BadScript c = bad c.0 c.1 (fault_read bytes left c.0 c.1 r c.2)
+    → (s : Status) → CauseOfSim left s → OrStalled (λ s. got ≡ s) s
+sim_cause bytes left got r done bad status.Done c =
+    ended_or_stalled got (done c.0 (script_read bytes left c.0 r c.1))
+sim_cause bytes left got r done bad status.BadScript c = inl (bad c.0 c.1 (fault_read bytes left c.0 c.1 r c.2))
+sim_cause bytes left got r done bad status.Stalled c = absurd c
 sim_cause bytes left got r done bad status.Usage c = absurd c
 sim_cause bytes left got r done bad status.Memory c = absurd c
 sim_cause bytes left got r done bad status.ReadFault c = absurd c
@@ -257,7 +271,7 @@ sim_cause bytes left got r done bad status.NotLegal c = absurd c
 -- a status that follows from what `sim` read follows from what the source had left
 pub sim_causes : (o : Options) (told : Option (List ℕ)) (bytes : List ℕ) (got : Status)
     → IfSome told (AreBytesUpTo 1048576 bytes)
-    → ((script : Script) → Reads bytes script → got ≡ status.Done)
+    → ((script : Script) → Reads bytes script → IsEnded got)
     → ((line : ℕ) (fault : ScriptFault) → IsFirstFault bytes line fault → got ≡ status.BadScript)
     → EachCause (Some (Simulate o)) told (λ s. got ≡ s)
 sim_causes o None bytes got r done bad = tt
@@ -266,7 +280,7 @@ sim_causes o (Some left) bytes got r done bad = λ s c. sim_cause bytes left got
 -- a status that follows from what `run` read follows from what the source had left
 pub run_causes : (steps : Bool) (told : Option (List ℕ)) (bytes : List ℕ) (got : Status)
     → IfSome told (AreBytesUpTo 1048576 bytes)
-    → ((script : Script) → Reads bytes script → got ≡ status.Done)
+    → ((script : Script) → Reads bytes script → IsEnded got)
     → ((line : ℕ) (fault : ScriptFault) → IsFirstFault bytes line fault → got ≡ status.BadScript)
     → EachCause (Some (Run steps)) told (λ s. got ≡ s)
 run_causes steps None bytes got r done bad = tt
@@ -287,6 +301,7 @@ gen_cause got e status.Usage c = absurd c
 gen_cause got e status.Memory c = absurd c
 gen_cause got e status.ReadFault c = absurd c
 gen_cause got e status.WriteFault c = absurd c
+gen_cause got e status.Stalled c = absurd c
 gen_cause got e status.NotLegal c = absurd c
 
 -- for a generated script each cause's status is the one of success
@@ -296,19 +311,19 @@ gen_causes o told got e = λ s c. gen_cause got e s c
 
 -- the totals of a generated script are told, whatever the source tells
 pub told_totals : (o : Options) (told : Option (List ℕ)) (s : Status) (text : List ℕ) (rested : List Rested)
-    → IsTotalsOfThreads (generated o.seed) o.steps text rested → s ≡ status.Done
+    → IsTotalsOfThreads (generated o.seed) o.steps text rested → are_left_stalled rested ≡ false → s ≡ status.Done
     → AnswersTold (Generate o) told s text rested
-told_totals o None s text rested h e =
+told_totals o None s text rested h calm e =
     record {
       bytes = [];
       told = tt;
-      answers = subst (λ (x : Status). Answers (Generate o) [] x text rested) (sym e) h;
+      answers = subst (λ (x : Status). Answers (Generate o) [] x text rested) (sym e) (h, calm);
     }
-told_totals o (Some left) s text rested h e =
+told_totals o (Some left) s text rested h calm e =
     record {
       bytes = left;
       told = refl;
-      answers = subst (λ (x : Status). Answers (Generate o) left x text rested) (sym e) h;
+      answers = subst (λ (x : Status). Answers (Generate o) left x text rested) (sym e) (h, calm);
     }
 
 -- what is left of the source, where a status is told

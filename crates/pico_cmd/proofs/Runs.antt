@@ -11,12 +11,12 @@ use Rattle.world_model.specs.Starting.{run}
 use Rattle.world_model.specs.Turn.{take_frame}
 use Rattle.world_model.specs.World.{World, opening_world, size, node_count, step, is_enabled, node_at, stream, with_stream, world_after, after_turn, runs_at, takes_at}
 use Rattle.world_model.specs.Schedule.{Schedule, InTurn, Drawn, Chooses, Follows, choice, schedule_of, schedule_after, node_of}
-use Rattle.world_model.specs.Run.{Runs, IsRunOf, IsAtRest}
-use Rattle.run_laws.specs.Laws.{JournalsAreLegal, RunsAreShort}
-use Rattle.rest_laws.specs.Laws.{NamesHaveOneOwner, NoneLivesAtRest, RestIsQuiet, RestIsWhole}
-use Rattle.world_core.specs.Laws.{IsWithin, RestIsWhereNothingIsChosen}
+use Rattle.world_model.specs.Run.{Runs, IsRunOf, IsAtRest, is_stalled}
+use Rattle.world_core.specs.Laws.{IsWithin}
 use Rattle.pico_cmd.specs.Run.{IsScheduledRun}
+use Rattle.pico_cmd.specs.Stalled.{IsLeftAs}
 use Rattle.pico_cmd.proofs.Chosen.{IsNext, choice_next}
+use Rattle.pico_cmd.proofs.RunLaws.{Laws, left_as}
 
 -- a step keeps the script
 
@@ -157,22 +157,29 @@ IsUnderWay-more script seed taken more now next at next_at e u chosen stepped af
 
 -- a run ends
 pub IsUnderWay-end : (script : Script) (seed : ℕ) (taken : List Event) (now : World) (at : Schedule)
-    → JournalsAreLegal → RestIsQuiet → NoneLivesAtRest → RestIsWhole → NamesHaveOneOwner → RunsAreShort
-    → RestIsWhereNothingIsChosen → IsSoundScript script
+    → Laws → IsSoundScript script
     → IsUnderWay script seed taken now at → choice now at ≡ None
     → IsScheduledRun script seed taken now
-IsUnderWay-end script seed taken now at legal quiet ended whole owned short rests sound u nothing =
-    let rest : IsAtRest now = rests script now at (taken, u.run) u.of_world nothing
+IsUnderWay-end script seed taken now at laws sound u nothing =
+    let rest : IsAtRest now = laws.rest script now at (taken, u.run) u.of_world nothing
     in record {
       schedule = Takes-end (opening_world script)
           (schedule_of seed (node_count script)) taken now at u.takes nothing;
       run = u.run;
       rest = rest;
-      quiet = quiet script now sound (taken, u.run) rest;
-      ended = λ k pid. ended script now k pid sound (taken, u.run) rest;
-      legal = (legal script now sound (taken, u.run)).0;
-      whole = whole script now sound (taken, u.run) rest;
-      legal_so_far = λ count w front. (legal script w sound (take count taken, front)).0;
-      owners = λ count w k name front. owned script w k name sound (take count taken, front);
-      short = short script sound taken now u.run;
+      quiet = laws.quiet script now sound (taken, u.run) rest;
+      legal = (laws.legal script now sound (taken, u.run)).0;
+      whole = laws.whole script now sound (taken, u.run) rest;
+      legal_so_far = λ count w front. (laws.legal script w sound (take count taken, front)).0;
+      owners = λ count w k name front. laws.owners script w k name sound (take count taken, front);
+      short = laws.short script sound taken now u.run;
     }
+
+-- and is left so
+pub IsUnderWay-left : (script : Script) (seed : ℕ) (taken : List Event) (now : World) (at : Schedule) (stalled : Bool)
+    → Laws → IsSoundScript script
+    → IsUnderWay script seed taken now at → choice now at ≡ None → is_stalled now ≡ stalled
+    → IsLeftAs stalled now
+IsUnderWay-left script seed taken now at stalled laws sound u nothing is =
+    left_as laws script now stalled sound (taken, u.run)
+    (laws.rest script now at (taken, u.run) u.of_world nothing) is

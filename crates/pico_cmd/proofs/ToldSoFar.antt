@@ -1,11 +1,12 @@
 -- What was told and what the world keeps, as the world goes on and lets go.
-use Rattle.std.proofs.Common.{◌≡◌, true, List, [], ◌++◌, Option, Some, None, IfSome, IsSome, refl, sym, ap, subst, ◌∙◌}
+use Rattle.std.proofs.Common.{◌≡◌, Bool, true, List, [], ◌++◌, Option, Some, None, IfSome, IsSome, refl, sym, ap, subst, ◌∙◌}
 use Rattle.std.specs.Option.{option_map}
 use Rattle.std.proofs.lemmas.List.{append-nil}
 use Rattle.pico_base.specs.declared.script.Script.{Script}
 use Rattle.pico_base.specs.declared.script.Event.{Event}
 use Rattle.pico_base.specs.declared.reply.Entry.{Entry}
 use Rattle.world_model.specs.World.{World, size, step, is_enabled}
+use Rattle.world_model.specs.Run.{is_stalled}
 use Rattle.world_model.specs.Schedule.{Schedule, choice}
 use Rattle.world_core.specs.Behind.{behind, without_journal}
 use Rattle.world_core.specs.Laws.{IsWithin}
@@ -42,6 +43,14 @@ enabled_in_kept whole telling world e made enabled =
     let kept : is_enabled made.kept e ≡ true =
     sym (enabled_behind made.told made.kept e) ∙ ap (λ (w : World). is_enabled w e) made.is_whole ∙ enabled
     in subst (λ (o : Option World). IfSome o (λ w. is_enabled w e ≡ true)) (sym made.is_kept) kept
+
+-- the whole world is left as the world is
+pub stalled_in_whole : (whole : World) (telling : Telling) (world : Option World) (stalled : Bool)
+    → MakeUp whole telling world → IfSome world (λ w. stalled ≡ is_stalled w) → is_stalled whole ≡ stalled
+stalled_in_whole whole telling world stalled made is =
+    let kept : stalled ≡ is_stalled made.kept =
+    subst (λ (o : Option World). IfSome o (λ w. stalled ≡ is_stalled w)) made.is_kept is
+    in sym (ap (λ (w : World). is_stalled w) made.is_whole) ∙ sym kept
 
 -- the whole world after a step, with what was told as before
 pub record IsWholeStep (whole : World) (e : Event) (telling : Telling) (world : Option World) : Type 0 where

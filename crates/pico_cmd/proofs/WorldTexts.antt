@@ -15,7 +15,8 @@ use Rattle.boxes_run.specs.Runs.{AreRested, scripts_of}
 use Rattle.pico_cmd.specs.Boxed.{AreHistories, IsTextOfBoxes, world_text, worlds_text}
 use Rattle.pico_cmd.specs.Threads.{entries_in, events_in}
 use Rattle.pico_cmd.proofs.Ends.{runs_keep}
-use Rattle.pico_cmd.proofs.Histories.{Laws, history_of, run_of}
+use Rattle.pico_cmd.proofs.Histories.{history_of, run_of}
+use Rattle.pico_cmd.proofs.RunLaws.{Laws}
 
 -- ---- each outcome is one history
 

@@ -1,5 +1,5 @@
 -- What a run of several sandboxes comes to: for each what a run of its script alone comes to.
-use Rattle.std.specs.Prelude.{◌≡◌, ℕ, List, [], ◌∷◌, ◌++◌, map, Option}
+use Rattle.std.specs.Prelude.{◌≡◌, ℕ, List, [], ◌∷◌, map, Option}
 use Rattle.std.specs.List.{flat_map, zip}
 use Rattle.std.specs.Option.{option_map_or}
 use Rattle.pico_base.specs.declared.script.Script.{Script}
@@ -9,7 +9,7 @@ use Rattle.sandbox_set.specs.Text.{boxes_text, named_trace}
 use Rattle.pico_run.specs.declared.rested.Rested.{Rested}
 use Rattle.boxes_run.specs.Runs.{scripts_of}
 use Rattle.pico_cmd.specs.declared.answer.Answer.{Answer}
-use Rattle.pico_cmd.specs.declared.status.Status.TheVariants as status
+use Rattle.pico_cmd.specs.Stalled.{are_left_stalled, status_left}
 use Rattle.pico_cmd.specs.Threads.{IsOneHistory, entries_in}
 
 -- Each sandbox has one outcome, in order, which is one history of its script alone.
@@ -26,7 +26,7 @@ pub record IsTextOfBoxes (boxes : List Sandbox) (text : List ℕ) (rested : List
 
 -- the outcomes are handed back, and their text is that of the answer
 pub record AnswersBoxes (boxes : List Sandbox) (a : Answer) : Type 0 where
-  pub done : a.status ≡ status.Done
+  pub status_is : a.status ≡ status_left (are_left_stalled a.rested)
   pub run : IsTextOfBoxes boxes a.text a.rested
 
 -- ---- the same, as it is told of worlds

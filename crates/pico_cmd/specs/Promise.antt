@@ -1,5 +1,5 @@
 -- What the program promises: when each status comes, and what is written with it.
-use Rattle.std.specs.Prelude.{◌≡◌, ◌⊎◌, ◌≤◌, ℕ, Bool, List, [], ◌∷◌, ◌++◌, length, take, codes, Option, Some, None, IfSome, Ok, Err}
+use Rattle.std.specs.Prelude.{◌≡◌, ◌⊎◌, ◌≤◌, ℕ, Bool, true, false, List, [], ◌∷◌, ◌++◌, length, take, codes, Option, Some, None, IfSome, Ok, Err}
 use Rattle.std.specs.Fmt.{decimal}
 use Rattle.pico_base.specs.declared.script.Script.{Script}
 use Rattle.host_iface.specs.Told.{followed_by}
@@ -24,6 +24,7 @@ use Rattle.pico_run.specs.declared.rested.Rested.{Rested}
 use Rattle.pico_cmd.specs.Run.{IsTextOfRun}
 use Rattle.pico_cmd.specs.Threads.{IsTextOfThreads, IsTotalsOfThreads}
 use Rattle.pico_cmd.specs.Boxed.{IsTextOfBoxes}
+use Rattle.pico_cmd.specs.Stalled.{are_left_stalled}
 use Rattle.pico_cmd.specs.Stop.{most_read}
 
 unfoldable pub usage_text : List ℕ
@@ -52,11 +53,11 @@ pub record IsTraceOfThreads (steps : Bool) (bytes text : List ℕ) (rested : Lis
 
 -- ---- `sim`
 
--- the bytes are a script, and the text is that of its run by the schedule that is asked for
-pub record IsTraceOf (options : Options) (bytes text : List ℕ) : Type 0 where
+-- the bytes are a script, and the text is that of its run by the schedule that is asked for, which is left so
+pub record IsTraceOf (options : Options) (stalled : Bool) (bytes text : List ℕ) : Type 0 where
   pub script : Script
   pub reads : Reads bytes script
-  pub run : IsTextOfRun script options text
+  pub run : IsTextOfRun script options stalled text
 
 -- the text names the first fault of the bytes
 pub record IsFaultOf (bytes text : List ℕ) : Type 0 where
@@ -67,13 +68,17 @@ pub record IsFaultOf (bytes text : List ℕ) : Type 0 where
 
 -- what goes with a status of `run` for these bytes
 abbrev pub RunsThreads : Bool → List ℕ → Status → List ℕ → List Rested → Type 0
-RunsThreads steps bytes status.Done text rested = IsTraceOfThreads steps bytes text rested
+RunsThreads steps bytes status.Done text rested =
+    IsTraceOfThreads steps bytes text rested × (are_left_stalled rested ≡ false)
+RunsThreads steps bytes status.Stalled text rested =
+    IsTraceOfThreads steps bytes text rested × (are_left_stalled rested ≡ true)
 RunsThreads steps bytes status.BadScript text rested = IsFaultOf bytes text × (rested ≡ [])
 RunsThreads steps bytes _ text rested = ⊥
 
 -- what goes with a status for these options and bytes
 abbrev pub Simulates : Options → List ℕ → Status → List ℕ → Type 0
-Simulates options bytes status.Done text = IsTraceOf options bytes text
+Simulates options bytes status.Done text = IsTraceOf options false bytes text
+Simulates options bytes status.Stalled text = IsTraceOf options true bytes text
 Simulates options bytes status.BadScript text = IsFaultOf bytes text
 Simulates options bytes _ text = ⊥
 
@@ -134,7 +139,8 @@ pub record IsBoxFaultOf (bytes text : List ℕ) : Type 0 where
 
 -- what goes with a status for these bytes
 abbrev pub RunsBoxes : List ℕ → Status → List ℕ → List Rested → Type 0
-RunsBoxes bytes status.Done text rested = AreTracesOfBoxes bytes text rested
+RunsBoxes bytes status.Done text rested = AreTracesOfBoxes bytes text rested × (are_left_stalled rested ≡ false)
+RunsBoxes bytes status.Stalled text rested = AreTracesOfBoxes bytes text rested × (are_left_stalled rested ≡ true)
 RunsBoxes bytes status.BadScript text rested = IsBoxFaultOf bytes text × (rested ≡ [])
 RunsBoxes bytes _ text rested = ⊥
 
@@ -147,7 +153,7 @@ Answers (Run steps) bytes s text rested = RunsThreads steps bytes s text rested
 Answers (Simulate options) bytes s text rested = Simulates options bytes s text × (rested ≡ [])
 Answers Check bytes s text rested = Judges (take (most_read Check) bytes) s text × (rested ≡ [])
 Answers (Generate options) bytes status.Done text rested =
-    IsTotalsOfThreads (generated options.seed) options.steps text rested
+    IsTotalsOfThreads (generated options.seed) options.steps text rested × (are_left_stalled rested ≡ false)
 Answers (Generate options) bytes _ text rested = ⊥
 Answers Boxes bytes s text rested = RunsBoxes bytes s text rested
 
@@ -167,7 +173,7 @@ Allows (Some request) left s text rested = AnswersTold request left s text reste
 
 -- ---- causes
 
--- what makes `run` and `sim` end so
+-- what makes `run` and `sim` end so; a run that ends is Done or Stalled, which the run itself shows
 abbrev pub CauseOfSim : List ℕ → Status → Type 0
 CauseOfSim bytes status.Done = (script : Script) × Reads bytes script
 CauseOfSim bytes status.BadScript = (line : ℕ) × (fault : ScriptFault) × IsFirstFault bytes line fault
@@ -214,11 +220,17 @@ Cause Check bytes s = CauseOfCheck (take (most_read Check) bytes) s
 Cause (Generate options) bytes s = CauseOfGen s
 Cause Boxes bytes s = CauseOfBoxes bytes s
 
+-- What follows where a status is due in a mode that runs scripts to rest: Stalled may stand for Done.
+abbrev pub OrStalled : (Status → Type 0) → Status → Type 0
+OrStalled follows s = follows s ⊎ ((s ≡ status.Done) × follows status.Stalled)
+
 -- each cause of a status for what the words ask for and the bytes that the source tells, and what follows from it
 abbrev pub EachCause : Option Request → Option (List ℕ) → (Status → Type 0) → Type 0
 EachCause None left follows = Unit {0}
 EachCause (Some (Generate options)) left follows = (s : Status) → CauseOfGen s → follows s
-EachCause (Some request) left follows = IfSome left (λ bytes. (s : Status) → Cause request bytes s → follows s)
+EachCause (Some Check) left follows = IfSome left (λ bytes. (s : Status) → Cause Check bytes s → follows s)
+EachCause (Some request) left follows =
+    IfSome left (λ bytes. (s : Status) → Cause request bytes s → OrStalled follows s)
 
 -- ---- what is written
 

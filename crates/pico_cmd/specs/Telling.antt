@@ -10,6 +10,7 @@ use Rattle.world_core.specs.Behind.{behind}
 use Rattle.trace_text.specs.Totals.{tally_of}
 use Rattle.pico_cmd.specs.declared.telling.Telling.{Telling}
 use Rattle.pico_cmd.specs.Run.{IsScheduledRun}
+use Rattle.pico_cmd.specs.Stalled.{IsLeftAs}
 
 -- the lines of these entries, where they are wanted
 abbrev pub lines_if : Bool → Script → List Entry → List ℕ
@@ -34,11 +35,13 @@ abbrev pub kept_if : Bool → List Event → List Event
 kept_if true events = events
 kept_if false events = []
 
--- the run of a script that the schedule of this number takes, whose whole journal was told, and of whose events these
--- were kept
-pub record IsToldRun (script : Script) (seed : ℕ) (steps : Bool) (kept : List Event) (telling : Telling) : Type 0 where
+-- the run of a script that the schedule of this number takes, which is left so, whose whole journal was told, and of
+-- whose events these were kept
+pub record IsToldRun (script : Script) (seed : ℕ) (steps : Bool) (kept : List Event) (stalled : Bool)
+    (telling : Telling) : Type 0 where
   pub events : List Event
   pub last : World
   pub run : IsScheduledRun script seed events last
+  pub left : IsLeftAs stalled last
   pub are_kept : kept ≡ kept_if steps events
   pub tells : Tells last.script last.journal telling

@@ -6,11 +6,13 @@ ghost use Rattle.kernel_model.specs.Trace.{totals_line};
 ghost use Rattle.pico_base.specs.declared.reply.Entry.{Entry as EntryValue};
 ghost use Rattle.script_reader.specs.declared.fault.ScriptFault.{ScriptFault as FaultValue};
 ghost use Rattle.script_reader.specs.Fault.{Reads, IsFirstFault};
-ghost use Rattle.pico_cmd.specs.Run.{IsTextOfRun, steps_if};
+ghost use Rattle.pico_cmd.specs.Run.{steps_if};
 ghost use Rattle.pico_cmd.specs.Telling.{Tells, lines_if};
 ghost use Rattle.pico_cmd.specs.Promise.{Simulates, fault_text, named_fault_text};
+ghost use Rattle.pico_cmd.specs.Simulated.{AnswersRun};
 
 use crate::run::{Run, run_script};
+use crate::stalled::status_left;
 use crate::status::Status;
 use crate::telling::Telling;
 use boxes_run::RestedList;
@@ -71,19 +73,18 @@ pub fn text_of(alloc: Global, run: Run, steps: bool) -> Result<Bytes, Memory>
         → IfOk result (λ text. text
         ≡ (lines_if run.telling.lines script history ++ totals_line history) ++ steps_if steps run.events.items) }
 {
-    let Run { events, telling } = run;
+    let Run {
+        events,
+        telling,
+        ..
+    } = run;
     with_steps(alloc, telling.finish()?, steps, &events)
 }
 
-// The text of a script's run by the schedule that is asked for, in the memory of what was read.
-fn text_of_run(
-    alloc: Global,
-    script: Script,
-    options: Options,
-    read: Bytes,
-) -> Result<Bytes, Memory>
+// The answer of a script's run by the schedule that is asked for, its text in the memory of what was read.
+fn simulated(alloc: Global, script: Script, options: Options, read: Bytes) -> Result<Answer, Memory>
     requires { IsSoundScript script }
-    ensures { IfOk result (IsTextOfRun script options) }
+    ensures { IfOk result (AnswersRun script options) }
 {
     let run = run_script(
         alloc,
@@ -92,7 +93,13 @@ fn text_of_run(
         options.steps,
         Telling::of_lines(read),
     )?;
-    text_of(alloc, run, options.steps)
+    let status = status_left(run.stalled);
+    let text = text_of(alloc, run, options.steps)?;
+    Ok(Answer {
+        status,
+        text,
+        rested: RestedList::new(alloc),
+    })
 }
 
 /// The answer to these bytes: the trace of the script that they are, and its events where they are wanted, or their
@@ -100,18 +107,15 @@ fn text_of_run(
 pub fn answer_to(alloc: Global, bytes: Bytes, options: Options) -> Result<Answer, Memory>
     ensures answer { IfOk result (λ answer. Simulates options bytes answer.status answer.text) }
     ensures alone { IfOk result (λ answer. answer.rested ≡ []) }
-    ensures status { IfOk result (λ answer. (answer.status ≡ Status.Done) ⊎ (answer.status ≡ Status.BadScript)) }
+    ensures status { IfOk result (λ answer.
+        ((answer.status ≡ Status.Done) ⊎ (answer.status ≡ Status.Stalled)) ⊎ (answer.status ≡ Status.BadScript)) }
     ensures done { (script : ScriptValue) → Reads bytes script
-        → IfOk result (λ answer. answer.status ≡ Status.Done) }
+        → IfOk result (λ answer. (answer.status ≡ Status.Done) ⊎ (answer.status ≡ Status.Stalled)) }
     ensures fault { (line : ℕ) (fault : FaultValue) → IsFirstFault bytes line fault
         → IfOk result (λ answer. answer.status ≡ Status.BadScript) }
 {
     match read_script(alloc, bytes.as_slice()) {
-        Ok(script) => Ok(Answer {
-            status: Status::Done,
-            text: text_of_run(alloc, script, options, bytes)?,
-            rested: RestedList::new(alloc),
-        }),
+        Ok(script) => simulated(alloc, script, options, bytes),
         Err(ScriptStop::At { line, fault }) => Ok(Answer {
             status: Status::BadScript,
             text: text_of_fault(alloc, line, fault)?,

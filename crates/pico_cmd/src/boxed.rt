@@ -1,5 +1,5 @@
 //! The answer to several sandboxes.
-ghost use Rattle.std.specs.Prelude.{◌≡◌, ◌++◌, ℕ, List, map, IfOk, OnOk, IsSome};
+ghost use Rattle.std.specs.Prelude.{◌≡◌, ◌⊎◌, ◌++◌, ℕ, List, map, IfOk, OnOk, IsSome};
 ghost use Rattle.std.specs.List.{AllByRecursion};
 ghost use Rattle.sandbox_set.specs.Boxes.{IsFirstFault, Reads};
 ghost use Rattle.sandbox_set.specs.Sound.{AreSound};
@@ -10,6 +10,7 @@ ghost use Rattle.pico_cmd.specs.Promise.{RunsBoxes, box_fault_text};
 
 use crate::answer::{Answer, text_of_named_fault};
 use crate::laws::laws;
+use crate::stalled::{are_left_stalled, status_left};
 use crate::status::Status;
 use boxes_run::{RestedList, run_all};
 use host_iface::Gate;
@@ -80,7 +81,7 @@ fn run_boxes<R: Threads + Wait + Sync, G: Gate>(
     let rested = run_all(rt, alloc, boxes, gate)?;
     let text = text_of_all(alloc, &names, rested.as_slice())?;
     Ok(Answer {
-        status: Status::Done,
+        status: status_left(are_left_stalled(rested.as_slice())),
         text,
         rested,
     })
@@ -96,7 +97,7 @@ pub fn answer_to_boxes<R: Threads + Wait + Sync, G: Gate>(
 ) -> Result<Answer, Memory>
     ensures answer { IfOk result (λ answer. RunsBoxes bytes.now answer.status answer.text answer.rested) }
     ensures done { (boxes : List BoxValue) → Reads bytes.now boxes
-        → IfOk result (λ answer. answer.status ≡ Status.Done) }
+        → IfOk result (λ answer. (answer.status ≡ Status.Done) ⊎ (answer.status ≡ Status.Stalled)) }
     ensures fault { (line : ℕ) (fault : FaultValue) → IsFirstFault bytes.now line fault
         → IfOk result (λ answer. answer.status ≡ Status.BadScript) }
 {

@@ -1,9 +1,12 @@
 //! What holds of every run of the machine, as the run of a script uses it.
 ghost use Rattle.world_core.specs.Laws.{RestIsWhereNothingIsChosen};
-ghost use Rattle.rest_laws.specs.Laws.{NamesHaveOneOwner, NoneLivesAtRest, RestIsQuiet, RestIsWhole};
+ghost use Rattle.rest_laws.specs.Laws.{NamesHaveOneOwner, NeverWaitsNeverStalls, NoneLivesUnlessStalled, RestIsQuiet, RestIsWhole, SomebodyWaitsWhereStalled, WhoLivesAtRestWaits};
 ghost use Rattle.run_laws.specs.Laws.{JournalsAreLegal, RunsAreShort};
 
-use rest_laws::{names_have_one_owner, none_lives_at_rest, rest_is_quiet, rest_is_whole};
+use rest_laws::{
+    names_have_one_owner, never_waits_never_stalls, none_lives_unless_stalled, rest_is_quiet,
+    rest_is_whole, somebody_waits_where_stalled, who_lives_at_rest_waits,
+};
 use run_laws::{journals_are_legal, runs_are_short};
 use world_core::rest_is_where_nothing_is_chosen;
 
@@ -11,7 +14,10 @@ use world_core::rest_is_where_nothing_is_chosen;
 pub fn laws()
     ensures legal { JournalsAreLegal }
     ensures quiet { RestIsQuiet }
-    ensures ended { NoneLivesAtRest }
+    ensures waits { WhoLivesAtRestWaits }
+    ensures ended { NoneLivesUnlessStalled }
+    ensures left { SomebodyWaitsWhereStalled }
+    ensures never { NeverWaitsNeverStalls }
     ensures whole { RestIsWhole }
     ensures owners { NamesHaveOneOwner }
     ensures short { RunsAreShort }
@@ -19,7 +25,10 @@ pub fn laws()
 {
     journals_are_legal();
     rest_is_quiet();
-    none_lives_at_rest();
+    who_lives_at_rest_waits();
+    none_lives_unless_stalled();
+    somebody_waits_where_stalled();
+    never_waits_never_stalls();
     rest_is_whole();
     names_have_one_owner();
     runs_are_short();

@@ -9,6 +9,7 @@ mod laws;
 mod program;
 mod run;
 mod schedule;
+mod stalled;
 mod status;
 mod telling;
 mod threaded;
@@ -58,12 +59,16 @@ fn leave(ran: Ran) -> Status {
     status
 }
 
-// Why what was asked for isn't written, or not all of it. The other statuses go with a text that says it.
+// Why what was asked for isn't written, or not all of it, or that a run is stalled. The other statuses go with a text
+// that says it.
 fn reason(status: Status) -> Option<&'static str> {
     match status {
         Status::Memory => Some("pico: memory ran out; nothing is written"),
         Status::ReadFault => Some("pico: reading standard input failed; nothing is written"),
         Status::WriteFault => Some("pico: writing to standard output failed"),
+        Status::Stalled => Some(
+            "pico: stalled: each process that lives waits, and nothing lets one go on",
+        ),
         Status::Done | Status::BadScript | Status::Usage | Status::NotLegal => None,
     }
 }

@@ -27,8 +27,8 @@ const MAX_SCRIPT: usize = 1048576;
 const MAX_CHECKED: usize = 68161537;
 
 /// What a run of the program leaves: how it ended, and the outcomes of the runs with threads that stand behind what was
-/// written. There is one with `run` and `gen`, and one for each sandbox with `boxes`, where the status is Done, or a
-/// WriteFault in its place; else there is none.
+/// written. There is one with `run` and `gen`, and one for each sandbox with `boxes`, where the status is Done or
+/// Stalled, or a WriteFault in its place; else there is none.
 #[derive(Drop)]
 pub struct Ran {
     pub status: Status,
@@ -286,6 +286,9 @@ fn write_answer<K: Sink>(sink: &mut K, answer: Answer) -> Ran
 /// - `boxes`: the source is up to 8 sandboxes, each a script of its own. All run at once with threads, as in `run`, and
 ///   the gate counts their nodes in order. For each its name and its trace are written.
 ///
+/// Where processes of a script wait for good, the run comes to rest all the same: then all is written as else, and the
+/// status is Stalled. No process of a generated script waits.
+///
 /// What `run`, `gen` and `boxes` come to is handed back, too: the journal, the events, the world at rest, and what each
 /// thread left.
 pub fn pico<R: Threads + Wait + Sync, S: Source, K: Sink, G: Gate>(
@@ -302,6 +305,10 @@ pub fn pico<R: Threads + Wait + Sync, S: Source, K: Sink, G: Gate>(
     // Nothing is written where memory or the source failed.
     ensures done { result.status ≡ Status.Done →
         Wrote (request_in (map string_bytes words.now)) (S.left source.old) Status.Done
+        result.rested (K.taken sink.old) (K.taken sink.new) }
+    // Stalled comes where the run is at rest and processes that live wait; then all is written, too.
+    ensures stalled { result.status ≡ Status.Stalled →
+        Wrote (request_in (map string_bytes words.now)) (S.left source.old) Status.Stalled
         result.rested (K.taken sink.old) (K.taken sink.new) }
     ensures bad_script { result.status ≡ Status.BadScript →
         Wrote (request_in (map string_bytes words.now)) (S.left source.old) Status.BadScript

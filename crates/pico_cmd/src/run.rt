@@ -12,11 +12,12 @@ use std::alloc::Global;
 use std::mem::ManuallyDrop;
 use world_core::StreamingWorld;
 
-/// A run: its events, where they are wanted, and what was told of its journal.
+/// A run: its events, where they are wanted, what was told of its journal, and whether processes wait for good.
 #[derive(Drop)]
 pub struct Run {
     pub events: Vec<Event>,
     pub telling: Telling,
+    pub stalled: bool,
 }
 
 // How many nodes a script has.
@@ -63,7 +64,7 @@ pub fn run_script(
 ) -> Result<Run, Memory>
     requires sound { IsSoundScript script }
     requires fresh { Tells script [] telling }
-    ensures told { IfOk result (λ run. IsToldRun script seed steps run.events.items run.telling) }
+    ensures told { IfOk result (λ run. IsToldRun script seed steps run.events.items run.stalled run.telling) }
     ensures lines { IfOk result (λ run. run.telling.lines ≡ telling.lines) }
 {
     laws();
@@ -80,7 +81,12 @@ pub fn run_script(
         world.step(event)?;
         tell_if_much(&mut telling, &mut world)?;
     }
+    let stalled = world.is_stalled();
     tell_all(&mut telling, &mut world)?;
     leave(world);
-    Ok(Run { events, telling })
+    Ok(Run {
+        events,
+        telling,
+        stalled,
+    })
 }

@@ -17,12 +17,14 @@ pub enum Status {
     ReadFault,
     /// A write to the sink failed; a front of the text is written.
     WriteFault,
+    /// The run is at rest, and processes that live wait for good; all that the mode writes is written.
+    Stalled,
     /// The trace isn't that of a legal history; its first fault is written.
     NotLegal,
 }
 
 impl Status {
-    /// The exit status of the process: 0 for Done, 1 to 5 for the next ones in order, and 7 for NotLegal.
+    /// The exit status of the process: their places from 0 for Done to 7 for NotLegal.
     pub fn code(self) -> u8
         ensures { result ≡ code_of self }
     {
@@ -33,6 +35,7 @@ impl Status {
             Status::Memory => 3,
             Status::ReadFault => 4,
             Status::WriteFault => 5,
+            Status::Stalled => 6,
             Status::NotLegal => 7,
         }
     }

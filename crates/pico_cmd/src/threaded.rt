@@ -1,19 +1,22 @@
 //! The answers of runs with a thread for each picoprocess.
-ghost use Rattle.std.specs.Prelude.{◌≡◌, ◌⊎◌, ◌++◌, ℕ, true, [], map, IfOk, IfSome, IsSome};
+ghost use Rattle.std.specs.Prelude.{◌≡◌, ◌⊎◌, ◌++◌, ℕ, true, false, [], map, IfOk, IfSome, IsSome};
 ghost use Rattle.pico_base.specs.declared.script.Script.{Script as ScriptValue};
 ghost use Rattle.kernel_model.specs.Script.{IsSoundScript};
 ghost use Rattle.kernel_model.specs.Trace.{totals_line};
 ghost use Rattle.script_reader.specs.declared.fault.ScriptFault.{ScriptFault as FaultValue};
 ghost use Rattle.script_reader.specs.Fault.{Reads, IsFirstFault};
 ghost use Rattle.script_writer.specs.Generated.{generated};
+ghost use Rattle.rest_laws.specs.Laws.{never_waits};
 ghost use Rattle.pico_cmd.specs.Run.{steps_if};
 ghost use Rattle.pico_cmd.specs.Telling.{Tells, lines_if};
 ghost use Rattle.pico_cmd.specs.Threads.{IsTotalsOfThreads, events_in};
 ghost use Rattle.pico_cmd.specs.Rested.{AnswersWith};
 ghost use Rattle.pico_cmd.specs.Promise.{RunsThreads};
+ghost use Rattle.pico_cmd.specs.Stalled.{are_left_stalled};
 
 use crate::answer::{Answer, text_of_fault, with_steps};
 use crate::laws::laws;
+use crate::stalled::{is_left_stalled, status_left};
 use crate::status::Status;
 use crate::telling::Telling;
 use boxes_run::RestedList;
@@ -69,16 +72,18 @@ fn run_told<R: Threads + Wait + Sync, G: Gate>(
 ) -> Result<Answer, Memory>
     requires sound { IsSoundScript script }
     requires fresh { (script : ScriptValue) → Tells script [] telling }
-    ensures { IfOk result (AnswersWith script telling.lines steps) }
+    ensures answer { IfOk result (AnswersWith script telling.lines steps) }
+    ensures never_waits { never_waits script ≡ true → IfOk result (λ answer. are_left_stalled answer.rested ≡ false) }
 {
     laws();
     let rested = run(rt, alloc, script, gate)?;
     let told = tell_rested(&rested, telling)?;
     let text = with_events(alloc, told, steps, &rested)?;
+    let status = status_left(is_left_stalled(&rested));
     let mut handed = RestedList::new(alloc);
     handed.push(rested)?;
     Ok(Answer {
-        status: Status::Done,
+        status,
         text,
         rested: handed,
     })
@@ -95,7 +100,7 @@ pub fn answer_to_run<R: Threads + Wait + Sync, G: Gate>(
 ) -> Result<Answer, Memory>
     ensures answer { IfOk result (λ answer. RunsThreads steps bytes answer.status answer.text answer.rested) }
     ensures done { (script : ScriptValue) → Reads bytes script
-        → IfOk result (λ answer. answer.status ≡ Status.Done) }
+        → IfOk result (λ answer. (answer.status ≡ Status.Done) ⊎ (answer.status ≡ Status.Stalled)) }
     ensures fault { (line : ℕ) (fault : FaultValue) → IsFirstFault bytes line fault
         → IfOk result (λ answer. answer.status ≡ Status.BadScript) }
 {
@@ -111,6 +116,7 @@ pub fn answer_to_run<R: Threads + Wait + Sync, G: Gate>(
 }
 
 /// The answer to a number: the totals of the generated script's run with threads, and its events where they are wanted.
+/// No call of a generated script waits.
 pub fn answer_to_number<R: Threads + Wait + Sync, G: Gate>(
     rt: &R,
     alloc: Global,
@@ -120,6 +126,7 @@ pub fn answer_to_number<R: Threads + Wait + Sync, G: Gate>(
 ) -> Result<Answer, Memory>
     ensures text { IfOk result (λ answer.
         IsTotalsOfThreads (generated number) steps answer.text answer.rested) }
+    ensures left { IfOk result (λ answer. are_left_stalled answer.rested ≡ false) }
     ensures status { IfOk result (λ answer. answer.status ≡ Status.Done) }
 {
     let script = generate(alloc, number)?;

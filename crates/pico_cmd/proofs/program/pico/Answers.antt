@@ -10,6 +10,11 @@ returns-in-Ok-clause-done g c e =
     wrote _ _ _ _ _ _ _ _ _ _ _ c.in-Ok.ensures.answer c.write_answer.ensures.written c.write_answer.ensures.rested e
     (λ n. cc)
 
+pub returns-in-Ok-clause-stalled : goal.returns-in-Ok-clause-stalled
+returns-in-Ok-clause-stalled g c e =
+    wrote _ _ _ _ _ _ _ _ _ _ _ c.in-Ok.ensures.answer c.write_answer.ensures.written c.write_answer.ensures.rested e
+    (λ n. cc)
+
 pub returns-in-Ok-clause-bad_script : goal.returns-in-Ok-clause-bad_script
 returns-in-Ok-clause-bad_script g c e =
     wrote _ _ _ _ _ _ _ _ _ _ _ c.in-Ok.ensures.answer c.write_answer.ensures.written c.write_answer.ensures.rested e

@@ -4,6 +4,7 @@ use Rattle.std.specs.Option.{option_map}
 use Rattle.world_model.specs.Schedule.{schedule_of, schedule_after}
 use Rattle.pico_cmd.specs.Schedule.{schedule_in}
 use Rattle.pico_cmd.proofs.Goings.{IsRunning-start, IsRunning-more, IsRunning-end, going_is_there, going_is_within, going_is_enabled}
+use Rattle.pico_cmd.proofs.RunLaws.{Laws}
 use Rattle.pico_cmd.proofs.run.run_script.Goals as goal
 
 pub loop-event-init : goal.loop-event-init
@@ -34,7 +35,18 @@ loop-event-preserved c =
 
 pub returns-clause-told : goal.returns-clause-told
 returns-clause-told c =
-    IsRunning-end _ _ _ _ _ _ _ _ _ _ _ c.laws.ensures.legal c.laws.ensures.quiet c.laws.ensures.ended
-    c.laws.ensures.whole c.laws.ensures.owners c.laws.ensures.short c.laws.ensures.rest c.requires.sound
-    c.loop-event.invariant c.choice.ensures.event (ap (option_map (λ x. x.0)) c.in_default.is)
-    c.in_ok-tell_all.ensures.told c.in_ok-tell_all.ensures.let_go
+    let laws : Laws = record {
+      legal = c.laws.ensures.legal;
+      quiet = c.laws.ensures.quiet;
+      waits = c.laws.ensures.waits;
+      ended = c.laws.ensures.ended;
+      left = c.laws.ensures.left;
+      never = c.laws.ensures.never;
+      whole = c.laws.ensures.whole;
+      owners = c.laws.ensures.owners;
+      short = c.laws.ensures.short;
+      rest = c.laws.ensures.rest;
+    } in
+    IsRunning-end _ _ _ _ _ _ _ _ _ _ _ _ laws c.requires.sound c.loop-event.invariant c.choice.ensures.event
+    (ap (option_map (λ x. x.0)) c.in_default.is) c.is_stalled-stalled.ensures c.in_ok-tell_all.ensures.told
+    c.in_ok-tell_all.ensures.let_go
