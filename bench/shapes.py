@@ -143,6 +143,43 @@ def operations(calls: int) -> bytes:
     return script({"main": lines})
 
 
+def ping_pong(calls: int) -> bytes:
+    """Two processes that send to each other by turns. Each waits for what the other one sends."""
+    rounds = (calls - 5) // 4
+    main = ["q = msgget private", "r = msgget private", "fork other"]
+    main += ['msgsnd $q 1 "ping"', "msgrcv $r 0 64"] * rounds
+    return script({"main": main, "other": ["msgrcv $q 0 64", 'msgsnd $r 1 "pong"'] * rounds})
+
+
+def pool(calls: int) -> bytes:
+    """Thirty-one workers that wait at one queue for work, and one process that sends it and waits for what comes of it."""
+    workers = 31
+    rounds = (calls - 2 - 2 * workers - 1) // (4 * workers)
+    work = ['msgsnd $q 1 "work"'] * workers + ["msgrcv $r 0 64"] * workers
+    main = ["q = msgget private", "r = msgget private"] + [f"fork w{k}" for k in range(1, workers + 1)] + work * rounds
+    blocks = {"main": main}
+    for k in range(1, workers + 1):
+        blocks[f"w{k}"] = ["msgrcv $q 0 64", f'msgsnd $r {k} "done"'] * rounds
+    return script(blocks)
+
+
+def barrier(calls: int) -> bytes:
+    """Thirty-two processes that go on together, round by round. A semaphore counts those who are still to come."""
+    processes = 32
+    rounds = (calls - 2 * processes - 2) // (2 * processes + 1)
+    blocks = {}
+    for k in range(1, processes + 1):
+        lines = []
+        for turn in range(rounds):
+            now, before = turn % 3, (turn + 2) % 3
+            lines += [f"semop $s {now}:-1", f"semop $s {now}:0"]
+            # All have left the barrier before this one, and come to it again two rounds later.
+            lines += [f"semop $s {before}:{processes}"] if k == 1 and turn > 0 else []
+        starts = ["s = semget private 3", f"semctl $s setall {processes},{processes},{processes}"]
+        blocks[f"p{k}"] = (starts + [f"fork p{c}" for c in range(2, processes + 1)] if k == 1 else []) + lines
+    return script(blocks)
+
+
 SHAPES = {
     "one-process": one_process,
     "two-processes": two_processes,
@@ -156,6 +193,9 @@ SHAPES = {
     "tree": tree,
     "keys": keys,
     "signals": signals,
+    "ping-pong": ping_pong,
+    "pool": pool,
+    "barrier": barrier,
 }
 
 

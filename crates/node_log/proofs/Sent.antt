@@ -1,5 +1,6 @@
 -- The machine's step where all that it sends may be sent; and events by rules that agree.
-use Rattle.std.proofs.Common.{◌≡◌, ℕ, List, Option, Some, None, Result, Ok, Err, OnOk, refl, ◌∙◌}
+use Rattle.std.proofs.Common.{ap, ◌≡◌, ℕ, Bool, true, if◌then◌else◌, List, Option, Some, None, Result, Ok, Err, OnOk, refl, ◌∙◌}
+use Rattle.std.specs.Option.{option_and_then}
 use Rattle.pico_base.specs.declared.reply.Entry.{Entry}
 use Rattle.pico_base.specs.declared.script.Script.{Script}
 use Rattle.pico_base.specs.declared.script.Event.{Event}
@@ -8,11 +9,13 @@ use Rattle.world_model.specs.Step.{Step}
 use Rattle.node_core.specs.declared.turn.Input.{Input}
 use Rattle.node_core.specs.declared.turn.Turn.{Turn}
 use Rattle.node_core.specs.Step.{step_as}
+use Rattle.node_core.specs.Turns.{IsTurn}
 use Rattle.log_model.specs.declared.answer.LogFault.{LogFault}
-use Rattle.log_model.specs.Turns.{HasNoStamp}
+use Rattle.log_model.specs.Turns.{HasNoStamp, may_send, step_if_sent}
+use Rattle.log_model.specs.Views.{Line}
 use Rattle.node_log.specs.declared.works.Works.{Works}
 use Rattle.node_log.specs.Steps.{sent_step, IsSentTurn, IsSameSeat}
-use Rattle.node_log.specs.Parts.{IsMade, IsUnmade, IsFull, IsUnnoted, IsSamePlace}
+use Rattle.node_log.specs.Parts.{IsMade, IsNoted, IsUnmade, IsFull, IsUnnoted, IsSamePlace}
 use Rattle.node_log.proofs.Places.{lines-same}
 
 -- ---- events by rules that agree
@@ -74,6 +77,47 @@ made_ok-along rule rule' floor event old new (Err fault) agree h = h
 abbrev pub with_node : Works → Option Node → Works
 with_node w left = record w { node = left }
 
+-- a turn of a node all of whose frames may be sent
+pub sent-turn : (script : Script) (lines : List Line) (input : Input) (old new : Option Node) (turn : Turn)
+    → IsTurn script old input new turn → may_send lines turn.sends ≡ true
+    → IsSentTurn script lines old input new turn
+sent-turn script lines input None new turn h may = absurd h
+sent-turn script lines input (Some n) None turn h may = absurd h
+sent-turn script lines input (Some n) (Some m) turn h may =
+    record {
+      node = n;
+      here = refl;
+      next = m;
+      left = refl;
+      strikes = h.0;
+      step = ap (option_and_then (step_if_sent lines)) h.1
+          ∙ ap (λ (b : Bool). if b then Some (step_as m turn h.0) else None) may;
+      may = may;
+    }
+
+-- a step with a stamp is made
+pub made-by_note : (script : Script) (old new : Works) (input : Input) (left : Option Node) (turn : Turn) (floor : ℕ)
+    (event : Event)
+    → IsSentTurn script old.lines.items old.node input left turn
+    → IsNoted (with_node old left) floor event turn.entries turn.sends new → new.node ≡ left
+    → IsMade (sent_step script old.lines.items input) floor event old new
+made-by_note script old new input left turn floor event sent h node =
+    record {
+      node = sent.node;
+      here = sent.here;
+      step = step_as sent.next turn sent.strikes;
+      is_step = sent.step;
+      next = node ∙ sent.left;
+      noted = record {
+        frames = h.frames;
+        stamp = h.stamp;
+        is_stamp = h.is_stamp;
+        clock = h.clock;
+        log = h.log;
+        lines = h.lines;
+      };
+    }
+
 -- a step for which there was no stamp is not noted
 pub full-by_note : (script : Script) (old new : Works) (input : Input) (left : Option Node) (turn : Turn)
     (floor last : ℕ)
@@ -84,7 +128,7 @@ full-by_note script old new input left turn floor last sent h =
     record {
       node = sent.node;
       here = sent.here;
-      step = step_as sent.next turn;
+      step = step_as sent.next turn sent.strikes;
       is_step = sent.step;
       unnoted = record {
         no_stamp = h.no_stamp;

@@ -1,5 +1,5 @@
 -- What single calls of a turn say: the machine's step that may be sent, its stamp, and which faults there are.
-use Rattle.std.specs.Prelude.{◌≡◌, ℕ, zero, suc, true, false, List, Option, Some, None}
+use Rattle.std.specs.Prelude.{◌≡◌, ℕ, zero, suc, Bool, true, false, List, Option, Some, None}
 use Rattle.std.specs.Option.{option_and_then}
 use Rattle.pico_base.specs.declared.script.Script.{Script}
 use Rattle.journal_core.specs.Seated.{Seated}
@@ -27,7 +27,8 @@ pub record IsSentTurn (script : Script) (lines : List Line) (old : Option Node) 
   pub here : old ≡ Some node
   pub next : Node
   pub left : new ≡ Some next
-  pub step : sent_step script lines input node ≡ Some (step_as next turn)
+  pub strikes : Bool
+  pub step : sent_step script lines input node ≡ Some (step_as next turn strikes)
   pub may : may_send lines turn.sends ≡ true
 
 -- the node wasn't spent, and there is no such step

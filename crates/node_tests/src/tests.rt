@@ -25,11 +25,12 @@
 //! | RecallAll | from the leader, by a node that leaves |
 //! | Left | by the leader, from a node that leaves, with a parcel of names that are all on their way |
 //! | ExitTo | by another node than the leader, from the leader, if the parent is here and lists the child |
+//! | Cancel | by a node that is born, of a call on a queue or set |
 //!
-//! No frame outside the limits of frames is taken, and no call that may wait is asked for. A deed has to have bytes of
-//! a body that goes with its name, and its number isn't one that the receiver is still to give. A parcel stands by
-//! rising number, with its own process's deed, which lives, and else with those of processes that have ended; its call
-//! ends the process.
+//! No frame outside the limits of frames is taken, and no withdrawal is asked for but by Cancel. A deed has to have
+//! bytes of a body that goes with its name, and its number isn't one that the receiver is still to give; those who wait
+//! there are on nodes of the script, and none of them could go on. A parcel stands by rising number, with its own
+//! process's deed, which lives, and else with those of processes that have ended; its call ends the process.
 ghost use Rattle.std.specs.Prelude.{◌≤◌, length};
 ghost use Rattle.kernel_model.specs.Script.{IsSoundScript};
 

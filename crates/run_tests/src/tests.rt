@@ -136,6 +136,31 @@ fn partings_are_what_the_gate_counts(rt: HostRuntime) -> Result<(), Fail> {
     Ok(())
 }
 
+// Process 2 sends once, and both receive: one of them waits for good.
+const ONE_WAITS: &str = concat!(
+    "proc main\nq = msgget private\nfork child\nmsgrcv $q 0 8\nend\n",
+    "proc child\nmsgsnd $q 1 \"x\"\nmsgrcv $q 0 8\nend\n"
+);
+
+// Runs a script, and says whether processes wait for good then. It alone owns what the run leaves.
+fn is_left_stalled<R: Threads + Wait + Sync>(
+    rt: &R,
+    alloc: Global,
+    script: &str,
+) -> Result<bool, Fail> {
+    let gate = Counts::new();
+    let script = read_script(alloc, script.as_bytes())?;
+    let rested = run(rt, alloc, script, &gate)?;
+    Ok(rested.world.is_stalled())
+}
+
+#[test]
+fn who_waits_for_good_is_seen(rt: HostRuntime) -> Result<(), Fail> {
+    assert!(rt; is_left_stalled(&rt, rt.alloc(), ONE_WAITS)?);
+    assert!(rt; !is_left_stalled(&rt, rt.alloc(), BOTH_LOOK)?);
+    Ok(())
+}
+
 // Two sandboxes of one process each.
 const TWO_SANDBOXES: &str = concat!(
     "sandbox a\nproc main\nq = msgget private\nmsgrcv $q 0 8 nowait\nend\nendsandbox\n",

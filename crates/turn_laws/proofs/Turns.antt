@@ -10,8 +10,8 @@ use Rattle.world_model.specs.Node.{Node, can_run, is_born}
 use Rattle.world_model.specs.Run.{IsReachableWorld, Runs as EventsLead}
 use Rattle.world_model.specs.Starting.{run}
 use Rattle.world_model.specs.Step.{Step}
-use Rattle.world_model.specs.Turn.{take_by_kind, take_frame}
-use Rattle.world_laws.proofs.ByRules.{taken-by-kind}
+use Rattle.world_model.specs.Turn.{take_by_rules, take_frame}
+use Rattle.world_laws.proofs.ByRules.{taken-by-rules}
 use Rattle.world_model.specs.World.{IsNode, World, is_checkpoint, is_enabled, is_number, is_run_enabled, is_take_enabled, node_at, opening_world, step, stream, world_after}
 use Rattle.world_laws.specs.Sights.{node_of}
 use Rattle.world_laws.proofs.Changes.{Changes}
@@ -125,10 +125,10 @@ module _ (script : Script) (sound : IsSoundScript script) (w : World) (p : ℕ) 
       in let rule : take_frame script (node_of w p) from frame ≡ Some s =
       ap (λ m. take_frame script m from frame) (node-shown (Takes from taken) t) ∙ made.1
       in let bounded : StepIsBounded script s =
-      of-some (StepIsBounded script) (take_by_kind script (node_of w p) from frame) s
+      of-some (StepIsBounded script) (take_by_rules script (node_of w p) from frame) s
       (take-turn-bounded script (node_of w p) p from frame (k.bounded.nodes p own.low own.high)
       (head-is-bounded script w [] p from frame f.rest h k.bounded))
-      (taken-by-kind script (node_of w p) from frame s rule)
+      (taken-by-rules script (node_of w p) from frame s rule)
       in record {
         next = world_after (world_without w p from f.rest) p s;
         enabled = turn-enabled (Takes from taken) t made.0;

@@ -15,6 +15,7 @@ pub mod Seats
 pub mod Senders
 pub mod Streams
 pub mod Under
+pub mod UnderWay
 pub mod Walks
 pub mod Wholes
 pub mod Worlds

@@ -4,8 +4,8 @@ use Rattle.std.specs.Prelude.{Ok, Err}
 use Rattle.pico_base.specs.declared.script.Script.{Script}
 use Rattle.pico_base.specs.declared.script.Event.{Event}
 use Rattle.pico_base.specs.declared.reply.Entry.{Entry}
-use Rattle.kernel_model.specs.History.{IsLegal}
-use Rattle.kernel_model.specs.Fitting.{Fits, FitsWhole}
+use Rattle.waiting_model.specs.History.{IsLegal}
+use Rattle.waiting_model.specs.Fitting.{Fits, FitsWhole}
 use Rattle.kernel_model.specs.Script.{IsSoundScript}
 use Rattle.world_model.specs.World.{World, step, is_enabled}
 use Rattle.world_model.specs.Run.{IsAtRest, IsReachableWorld}
@@ -30,7 +30,7 @@ journal_fits (Some w) journal legal sound is =
     subst (λ (entries : List Entry). Fits w.script entries) (sym is)
     (legal w.script w sound.sound sound.reachable).1
 
--- at rest the journal has each process's calls to its end
+-- at rest the journal has each process's calls to its end, or to the call in which it waits
 pub rest_has_all : (found : Option World) (rests : Bool) → RestIsWhole → IsSoundWorld found
     → IfSome found (λ w. IsTrue rests ↔ IsAtRest w)
     → IfSome found (λ w. IsTrue rests → FitsWhole w.script w.journal)

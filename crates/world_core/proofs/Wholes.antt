@@ -118,7 +118,7 @@ turn_taken s next p k input turn (Some n) (Some m) all place lt old_is is_turn s
       node = n;
       here = ap (λ (i : ℕ). slice_get (whole s.nodes.items) i) (sym place) ∙ here;
       taken =
-          ap (λ (t : Option Step). after_turn (world_of s) p t) is_turn
+          ap (λ (t : Option Step). after_turn (world_of s) p t) is_turn.1
           ∙ ap (λ (w : World). Some w)
           (same_world s.script next.script (set (whole s.nodes.items) (p - 1) m) (whole next.nodes.items)
           (with_all_sent p s.inboxes.items turn.sends) next.inboxes.items (s.made.entries ++ turn.entries)

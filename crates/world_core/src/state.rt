@@ -1,10 +1,10 @@
 //! The world that isn't spent: its nodes, their inboxes and the journal.
 ghost use Rattle.std.specs.Prelude.{◌≡◌, ◌↔◌, ◌<◌, ◌≤◌, ◌-◌, [], ◌++◌, length, map, replicate, set, get_or, true, Some, slice_get, ◌+◌, IfOk, OnOk, IsOk, IfSome, IsSome, IsTrue};
-ghost use Rattle.std.specs.List.{flat_map};
+ghost use Rattle.std.specs.List.{flat_map, list_any};
 ghost use Rattle.kernel_model.specs.Script.{IsSoundScript};
 ghost use Rattle.world_model.specs.Node.{opening_node};
 ghost use Rattle.world_model.specs.World.{numbers, node_count, opening_world, node_at, is_run_enabled, is_take_enabled, is_enabled, stream, with_sent, with_all_sent};
-ghost use Rattle.world_model.specs.Run.{IsAtRest};
+ghost use Rattle.world_model.specs.Run.{IsAtRest, has_call_under_way, is_stalled};
 ghost use Rattle.world_model.specs.Schedule.{enabled_at, enabled_events, in_turn};
 ghost use Rattle.world_core.specs.Seat.{IsSeat};
 ghost use Rattle.node_core.specs.Step.{step_of};
@@ -14,7 +14,7 @@ ghost use Rattle.world_core.specs.Behind.{without_journal};
 ghost use Rattle.world_core.specs.Inbox.{from_node, with_from};
 ghost use Rattle.world_core.specs.Stream.{frame_of};
 ghost use Rattle.world_core.specs.Counts.{counts_of};
-ghost use Rattle.world_core.specs.State.{AreWhole, AreSeats, AreCounted, OthersAreCounted, MaySend, HaveGone, world_of, IsSent, IsAfterTurn, IsStep, IsAlive};
+ghost use Rattle.world_core.specs.State.{AreWhole, AreSeats, AreCounted, OthersAreCounted, MaySend, HaveGone, whole, world_of, IsSent, IsAfterTurn, IsStep, IsAlive};
 
 use crate::counts::{Counts, count_all, count_of};
 use crate::inbox::{Inbox, place};
@@ -66,6 +66,19 @@ fn empty_inboxes(alloc: Global, count: usize) -> Result<Vec<Inbox>, Memory>
         inboxes.push(Inbox::new(alloc, count)?)?;
     }
     Ok(inboxes)
+}
+
+/// Whether a call is under way at one of these nodes, whose process lives.
+fn is_call_under_way(nodes: &[PicoNode]) -> bool
+    requires { AreWhole nodes.now }
+    ensures { result ≡ list_any has_call_under_way (whole nodes.now) }
+{
+    for at in 0..nodes.len() {
+        if nodes[at].has_call_under_way() {
+            return true;
+        }
+    }
+    false
 }
 
 /// A turn that the machine has a step for was refused for want of memory alone.
@@ -371,6 +384,14 @@ impl State {
         ensures { IsTrue result ↔ IsAtRest (world_of self.now) }
     {
         self.count() == 0
+    }
+
+    /// Whether a call is under way at a node whose process lives.
+    pub(crate) fn is_stalled(&self) -> bool
+        requires { IsAlive self.now }
+        ensures { result ≡ is_stalled (world_of self.now) }
+    {
+        is_call_under_way(&self.nodes)
     }
 
     /// The node has had its turn: its events are counted anew, and its frames go their ways.

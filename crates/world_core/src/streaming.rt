@@ -3,7 +3,7 @@ ghost use Rattle.std.specs.Prelude.{◌≡◌, ◌↔◌, ◌≤◌, true, lengt
 ghost use Rattle.std.specs.Option.{option_map};
 ghost use Rattle.kernel_model.specs.Script.{IsSoundScript};
 ghost use Rattle.world_model.specs.World.{size, opening_world, is_enabled};
-ghost use Rattle.world_model.specs.Run.{IsAtRest};
+ghost use Rattle.world_model.specs.Run.{IsAtRest, is_stalled};
 ghost use Rattle.world_model.specs.Schedule.{enabled_events, in_turn};
 ghost use Rattle.world_core.specs.Behind.{without_journal};
 ghost use Rattle.world_core.specs.State.{IsAlive, world_of};
@@ -109,6 +109,14 @@ impl StreamingWorld {
         ensures { IfSome self.now (λ w. IsTrue result ↔ IsAtRest w) }
     {
         self.state().at_rest()
+    }
+
+    /// Whether a process that lives has a call under way. At rest it waits for good.
+    pub fn is_stalled(&self) -> bool
+        requires whole { IsSome self.now }
+        ensures { IfSome self.now (λ w. result ≡ is_stalled w) }
+    {
+        self.state().is_stalled()
     }
 
     /// What was carried out since entries were let go last, in order.

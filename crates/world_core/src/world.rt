@@ -1,10 +1,10 @@
 //! A world as callers see it, with its whole journal.
 ghost use Rattle.std.specs.Prelude.{◌≡◌, ◌↔◌, ◌≤◌, true, length, slice_get, Some, None, IfOk, OnOk, OnErr, IfSome, IsSome, IsErr, IsTrue};
-ghost use Rattle.kernel_model.specs.History.{IsLegal};
-ghost use Rattle.kernel_model.specs.Fitting.{Fits, FitsWhole};
 ghost use Rattle.kernel_model.specs.Script.{IsSoundScript};
+ghost use Rattle.waiting_model.specs.Fitting.{Fits, FitsWhole};
+ghost use Rattle.waiting_model.specs.History.{IsLegal};
 ghost use Rattle.world_model.specs.World.{World as MachineWorld, size, opening_world, is_enabled};
-ghost use Rattle.world_model.specs.Run.{IsRunOf, IsAtRest};
+ghost use Rattle.world_model.specs.Run.{IsRunOf, IsAtRest, is_stalled};
 ghost use Rattle.world_model.specs.Schedule.{enabled_events, in_turn};
 ghost use Rattle.rest_laws.specs.Laws.{IsQuiet};
 ghost use Rattle.world_core.specs.Stepped.{IsStepped};
@@ -83,8 +83,9 @@ impl World {
         self.streaming.in_turn(after)
     }
 
-    /// Whether no event may come next. At rest the journal has each process's calls to its end, nothing is on its way,
-    /// the leader holds nothing, and each node has left or was never born, but node 1, which goes on.
+    /// Whether no event may come next. At rest the journal has each process's calls to its end, or to the call in which
+    /// it waits; nothing is on its way, the leader holds nothing, and each node has left, or was never born, or a call
+    /// of its process waits, but node 1, which goes on.
     pub fn at_rest(&self) -> bool
         requires whole { IsSome self.now }
         ensures rest { IfSome self.now (λ w. IsTrue result ↔ IsAtRest w) }
@@ -94,6 +95,14 @@ impl World {
         rest_is_whole();
         rest_is_quiet();
         self.streaming.at_rest()
+    }
+
+    /// Whether a process that lives has a call under way. At rest it waits for good, and nothing lets it go on.
+    pub fn is_stalled(&self) -> bool
+        requires whole { IsSome self.now }
+        ensures { IfSome self.now (λ w. result ≡ is_stalled w) }
+    {
+        self.streaming.is_stalled()
     }
 
     /// All that was carried out so far, in order: one history of a single POSIX kernel, in which each process's calls

@@ -66,15 +66,16 @@ fn trace_of(alloc: Global, world: &World) -> Result<String, Memory>
     Ok(String::from_utf8_lossy(alloc, trace.as_slice())?)
 }
 
-// The trace that the events of the row leave, and whether no event may come then; in place of a trace it is said where
-// one of them may not come when it comes.
-fn trace_after(alloc: Global, row: &Row) -> Result<(String, bool), Fail> {
+// The trace that the events of the row leave, whether no event may come then, and whether a process waits for good then;
+// in place of a trace it is said where one of them may not come when it comes.
+fn trace_after(alloc: Global, row: &Row) -> Result<(String, bool, bool), Fail> {
     let script = read_script(alloc, row.script.as_bytes())?;
     let events = events_of(alloc, row.events)?;
     let Some(world) = play(alloc, script, &events)? else {
-        return Ok(("an event may not come".to_string(alloc)?, false));
+        return Ok(("an event may not come".to_string(alloc)?, false, false));
     };
-    Ok((trace_of(alloc, &world)?, world.at_rest()))
+    let rests = world.at_rest();
+    Ok((trace_of(alloc, &world)?, rests, rests && world.is_stalled()))
 }
 
 // Carries out an event that may come next.
@@ -146,9 +147,10 @@ fn lines_at_rest(alloc: Global, row: &Drawn, seed: u32) -> Result<Option<String>
 #[test]
 fn known_runs_leave_their_traces(rt: HostRuntime) -> Result<(), Fail> {
     for row in &ROWS {
-        let (trace, rests) = trace_after(rt.alloc(), row)?;
+        let (trace, rests, stalled) = trace_after(rt.alloc(), row)?;
         assert!(rt; trace.as_str() == row.trace, "{}", row.name);
         assert!(rt; rests == row.rests, "{}", row.name);
+        assert!(rt; stalled == row.stalled, "{}", row.name);
     }
     Ok(())
 }

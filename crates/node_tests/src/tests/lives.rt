@@ -21,7 +21,14 @@ pub(super) struct Moment {
 }
 
 /// What it takes from the leader once it is born, and with a child.
-const BORN: &str = "Request Forward Forward:removal Grant:set Grant:removed";
+const BORN: &str =
+    "Request Request:waits Forward Forward:waits Forward:removal Grant:set Grant:removed Grant:awaited";
+
+/// What a node takes from any node once it is born.
+const CANCELS: &str = "Cancel Cancel:own Cancel:of-0";
+
+/// What it takes from the third node, once it is born.
+const FROM_THIRD: &str = "Request Request:waits";
 
 const PARENT: &str = "ExitTo ExitTo:killed ExitTo:family";
 
@@ -37,80 +44,108 @@ pub(super) static CHILD_LIFE: [Moment; 18] = [
     // It is born, and nothing is out.
     Moment {
         started: 0,
-        takes: [&[BORN, "Grant Grant:20 Grant:leased"], &[], &["Request"]],
+        takes: [
+            &[CANCELS, BORN, "Grant Grant:20 Grant:leased"],
+            &[CANCELS],
+            &[CANCELS, FROM_THIRD],
+        ],
         next: Next::Take(Who::Leader, Wire::Grant((Q20, QUEUE))),
     },
     // It holds queue 20.
     Moment {
         started: 0,
-        takes: [&[BORN, "Grant Grant:leased"], &[], &["Request"]],
+        takes: [
+            &[CANCELS, BORN, "Grant Grant:leased"],
+            &[CANCELS],
+            &[CANCELS, FROM_THIRD],
+        ],
         next: Next::Run,
     },
     // It waits for numbers of queues.
     Moment {
         started: 1,
         takes: [
-            &[BORN, "Grant Grant:leased Lease:queues"],
-            &[],
-            &["Request"],
+            &[CANCELS, BORN, "Grant Grant:leased Lease:queues"],
+            &[CANCELS],
+            &[CANCELS, FROM_THIRD],
         ],
         next: Next::Take(Who::Leader, Wire::Lease(Kind::Msg, 1)),
     },
     // It holds queue 1, too, and may make queues 2 to 8.
     Moment {
         started: 1,
-        takes: [&[BORN, "Recall"], &[], &["Request"]],
+        takes: [
+            &[CANCELS, BORN, "Recall"],
+            &[CANCELS],
+            &[CANCELS, FROM_THIRD],
+        ],
         next: Next::Run,
     },
     // It waits for numbers of processes.
     Moment {
         started: 2,
-        takes: [&[BORN, "Recall Lease Lease:to-last"], &[], &["Request"]],
+        takes: [
+            &[CANCELS, BORN, "Recall Lease Lease:to-last"],
+            &[CANCELS],
+            &[CANCELS, FROM_THIRD],
+        ],
         next: Next::Take(Who::Leader, Wire::Lease(Kind::Proc, 9)),
     },
     // It has the child 9.
     Moment {
         started: 2,
-        takes: [&[BORN, "Recall", PARENT], &[], &["Request"]],
+        takes: [
+            &[CANCELS, BORN, "Recall", PARENT],
+            &[CANCELS],
+            &[CANCELS, FROM_THIRD],
+        ],
         next: Next::Run,
     },
     // A call by a key is out.
     Moment {
         started: 3,
         takes: [
-            &[BORN, "Recall", PARENT, "Answer"],
-            &["Answer"],
-            &["Request Answer"],
+            &[CANCELS, BORN, "Recall", PARENT, "Answer"],
+            &[CANCELS, "Answer"],
+            &[CANCELS, FROM_THIRD, "Answer"],
         ],
         next: Next::Take(Who::Leader, Wire::Answer(0)),
     },
     Moment {
         started: 3,
-        takes: [&[BORN, "Recall", PARENT], &[], &["Request"]],
+        takes: [
+            &[CANCELS, BORN, "Recall", PARENT],
+            &[CANCELS],
+            &[CANCELS, FROM_THIRD],
+        ],
         next: Next::Run,
     },
     // A call on a name is out, at the leader.
     Moment {
         started: 4,
         takes: [
-            &[BORN, "Recall", PARENT, "Answer NotOwner"],
-            &["Answer NotOwner"],
-            &["Request Answer NotOwner"],
+            &[CANCELS, BORN, "Recall", PARENT, "Answer NotOwner"],
+            &[CANCELS, "Answer NotOwner"],
+            &[CANCELS, FROM_THIRD, "Answer NotOwner"],
         ],
         next: Next::Take(Who::Leader, Wire::Answer(0)),
     },
     Moment {
         started: 4,
-        takes: [&[BORN, "Recall", PARENT], &[], &["Request"]],
+        takes: [
+            &[CANCELS, BORN, "Recall", PARENT],
+            &[CANCELS],
+            &[CANCELS, FROM_THIRD],
+        ],
         next: Next::Run,
     },
     // A call on a name is out, at the owner that it remembers.
     Moment {
         started: 5,
         takes: [
-            &[BORN, "Recall", PARENT, "Answer NotOwner"],
-            &["Answer NotOwner"],
-            &["Request Answer NotOwner"],
+            &[CANCELS, BORN, "Recall", PARENT, "Answer NotOwner"],
+            &[CANCELS, "Answer NotOwner"],
+            &[CANCELS, FROM_THIRD, "Answer NotOwner"],
         ],
         next: Next::Take(Who::Leader, Wire::NotOwner(0)),
     },
@@ -118,48 +153,65 @@ pub(super) static CHILD_LIFE: [Moment; 18] = [
     Moment {
         started: 5,
         takes: [
-            &[BORN, "Recall", PARENT, "Answer NotOwner"],
-            &["Answer NotOwner"],
-            &["Request Answer NotOwner"],
+            &[CANCELS, BORN, "Recall", PARENT, "Answer NotOwner"],
+            &[CANCELS, "Answer NotOwner"],
+            &[CANCELS, FROM_THIRD, "Answer NotOwner"],
         ],
         next: Next::Take(Who::Leader, Wire::Answer(0)),
     },
     Moment {
         started: 5,
-        takes: [&[BORN, "Recall", PARENT], &[], &["Request"]],
+        takes: [
+            &[CANCELS, BORN, "Recall", PARENT],
+            &[CANCELS],
+            &[CANCELS, FROM_THIRD],
+        ],
         next: Next::Run,
     },
     // A removal is out.
     Moment {
         started: 6,
         takes: [
-            &[BORN, "Recall", PARENT, "Answer"],
-            &["Answer"],
-            &["Request Answer"],
+            &[CANCELS, BORN, "Recall", PARENT, "Answer"],
+            &[CANCELS, "Answer"],
+            &[CANCELS, FROM_THIRD, "Answer"],
         ],
         next: Next::Take(Who::Leader, Wire::Answer(0)),
     },
     Moment {
         started: 6,
-        takes: [&[BORN, "Recall", PARENT], &[], &["Request"]],
+        takes: [
+            &[CANCELS, BORN, "Recall", PARENT],
+            &[CANCELS],
+            &[CANCELS, FROM_THIRD],
+        ],
         next: Next::Run,
     },
     // It leaves.
     Moment {
         started: 7,
-        takes: [&[BORN, "Recall RecallAll", PARENT], &[], &["Request"]],
+        takes: [
+            &[CANCELS, BORN, "Recall RecallAll", PARENT],
+            &[CANCELS],
+            &[CANCELS, FROM_THIRD],
+        ],
         next: Next::Take(Who::Leader, Wire::RecallAll),
     },
     // It has left.
     Moment {
         started: 7,
-        takes: [&[BORN, "Grant Grant:20"], &[], &["Request"]],
+        takes: [
+            &[CANCELS, BORN, "Grant Grant:20"],
+            &[CANCELS],
+            &[CANCELS, FROM_THIRD],
+        ],
         next: Next::Rest,
     },
 ];
 
 /// What it takes from others at any time.
-const OTHERS: &str = "Ask Ask:removal Request Bounce Bounce:removal LeaseAsk Placed Suggest";
+const OTHERS: &str =
+    "Ask Ask:waits Ask:removal Request Request:waits Bounce Bounce:waits Bounce:removal LeaseAsk Placed Suggest";
 
 /// The leader forks, signals its child and ends. Of the others, the child makes a queue, which it sends to the third
 /// node, and leaves as another process than it is; the third node says that it made a queue, and leaves.
@@ -168,9 +220,9 @@ pub(super) static LEADER_LIFE: [Moment; 15] = [
     Moment {
         started: 0,
         takes: [
-            &[],
-            &[OTHERS, "Ask:key Leaving:other"],
-            &[OTHERS, "Ask:key Leaving:other"],
+            &[CANCELS],
+            &[CANCELS, OTHERS, "Ask:key Leaving:other"],
+            &[CANCELS, OTHERS, "Ask:key Leaving:other"],
         ],
         next: Next::Run,
     },
@@ -178,9 +230,9 @@ pub(super) static LEADER_LIFE: [Moment; 15] = [
     Moment {
         started: 1,
         takes: [
-            &[],
-            &[OTHERS, "Ask:key Leaving Leaving:other"],
-            &[OTHERS, "Ask:key Leaving Leaving:other"],
+            &[CANCELS],
+            &[CANCELS, OTHERS, "Ask:key Leaving Leaving:other"],
+            &[CANCELS, OTHERS, "Ask:key Leaving Leaving:other"],
         ],
         next: Next::Take(Who::Child, Wire::LeaseAsk(Kind::Msg)),
     },
@@ -188,18 +240,18 @@ pub(super) static LEADER_LIFE: [Moment; 15] = [
     Moment {
         started: 1,
         takes: [
-            &[],
-            &[OTHERS, "Ask:key Leaving Leaving:other"],
-            &[OTHERS, "Ask:key Leaving Leaving:other"],
+            &[CANCELS],
+            &[CANCELS, OTHERS, "Ask:key Leaving Leaving:other"],
+            &[CANCELS, OTHERS, "Ask:key Leaving Leaving:other"],
         ],
         next: Next::Take(Who::Child, Wire::Placed(Q1, Who::Child)),
     },
     Moment {
         started: 1,
         takes: [
-            &[],
-            &[OTHERS, "Ask:key Leaving Leaving:other"],
-            &[OTHERS, "Ask:key Leaving Leaving:other"],
+            &[CANCELS],
+            &[CANCELS, OTHERS, "Ask:key Leaving Leaving:other"],
+            &[CANCELS, OTHERS, "Ask:key Leaving Leaving:other"],
         ],
         next: Next::Take(Who::Third, Wire::Placed(Q12, Who::Third)),
     },
@@ -207,9 +259,9 @@ pub(super) static LEADER_LIFE: [Moment; 15] = [
     Moment {
         started: 1,
         takes: [
-            &[],
-            &[OTHERS, "Leaving Leaving:other"],
-            &[OTHERS, "Leaving Leaving:other"],
+            &[CANCELS],
+            &[CANCELS, OTHERS, "Leaving Leaving:other"],
+            &[CANCELS, OTHERS, "Leaving Leaving:other"],
         ],
         next: Next::Run,
     },
@@ -217,18 +269,18 @@ pub(super) static LEADER_LIFE: [Moment; 15] = [
     Moment {
         started: 2,
         takes: [
-            &["Answer NotOwner"],
-            &[OTHERS, "Leaving Leaving:other Answer NotOwner"],
-            &[OTHERS, "Leaving Leaving:other Answer NotOwner"],
+            &[CANCELS, "Answer NotOwner"],
+            &[CANCELS, OTHERS, "Leaving Leaving:other Answer NotOwner"],
+            &[CANCELS, OTHERS, "Leaving Leaving:other Answer NotOwner"],
         ],
         next: Next::Take(Who::Child, Wire::Answer(0)),
     },
     Moment {
         started: 2,
         takes: [
-            &[],
-            &[OTHERS, "Leaving Leaving:other"],
-            &[OTHERS, "Leaving Leaving:other"],
+            &[CANCELS],
+            &[CANCELS, OTHERS, "Leaving Leaving:other"],
+            &[CANCELS, OTHERS, "Leaving Leaving:other"],
         ],
         next: Next::Take(Who::Child, Wire::Suggest(Q1, Who::Third)),
     },
@@ -236,9 +288,9 @@ pub(super) static LEADER_LIFE: [Moment; 15] = [
     Moment {
         started: 2,
         takes: [
-            &["GiveBack"],
-            &[OTHERS, "Leaving Leaving:other GiveBack"],
-            &[OTHERS, "Leaving Leaving:other GiveBack"],
+            &[CANCELS, "GiveBack"],
+            &[CANCELS, OTHERS, "Leaving Leaving:other GiveBack"],
+            &[CANCELS, OTHERS, "Leaving Leaving:other GiveBack"],
         ],
         next: Next::Take(Who::Child, Wire::GiveBack((Q1, QUEUE))),
     },
@@ -246,25 +298,37 @@ pub(super) static LEADER_LIFE: [Moment; 15] = [
     Moment {
         started: 2,
         takes: [
-            &[],
-            &[OTHERS, "Leaving Leaving:other"],
-            &[OTHERS, "Leaving Leaving:other"],
+            &[CANCELS],
+            &[CANCELS, OTHERS, "Leaving Leaving:other"],
+            &[CANCELS, OTHERS, "Leaving Leaving:other"],
         ],
         next: Next::Take(Who::Child, Wire::Leaving(40, 1, Who::Leader)),
     },
     // The child leaves, as process 40, which is none.
     Moment {
         started: 2,
-        takes: [&[], &[OTHERS, "Left"], &[OTHERS, "Leaving Leaving:other"]],
+        takes: [
+            &[CANCELS],
+            &[CANCELS, OTHERS, "Left"],
+            &[CANCELS, OTHERS, "Leaving Leaving:other"],
+        ],
         next: Next::Take(Who::Third, Wire::Leaving(9, 2, Who::Child)),
     },
     // The third node leaves, too.
     Moment {
         started: 2,
         takes: [
-            &["GiveBack GiveBack:12"],
-            &[OTHERS, "GiveBack GiveBack:12 Left Left:family"],
-            &[OTHERS, "GiveBack GiveBack:12 Left Left:family"],
+            &[CANCELS, "GiveBack GiveBack:12 GiveBack:awaited"],
+            &[
+                CANCELS,
+                OTHERS,
+                "GiveBack GiveBack:12 GiveBack:awaited Left Left:family",
+            ],
+            &[
+                CANCELS,
+                OTHERS,
+                "GiveBack GiveBack:12 GiveBack:awaited Left Left:family",
+            ],
         ],
         next: Next::Take(Who::Third, Wire::GiveBack((Q1, QUEUE))),
     },
@@ -272,9 +336,17 @@ pub(super) static LEADER_LIFE: [Moment; 15] = [
     Moment {
         started: 2,
         takes: [
-            &["GiveBack:12"],
-            &[OTHERS, "GiveBack:12 Left Left:family"],
-            &[OTHERS, "GiveBack:12 Left Left:family"],
+            &[CANCELS, "GiveBack:12 GiveBack:awaited"],
+            &[
+                CANCELS,
+                OTHERS,
+                "GiveBack:12 GiveBack:awaited Left Left:family",
+            ],
+            &[
+                CANCELS,
+                OTHERS,
+                "GiveBack:12 GiveBack:awaited Left Left:family",
+            ],
         ],
         next: Next::Run,
     },
@@ -282,9 +354,17 @@ pub(super) static LEADER_LIFE: [Moment; 15] = [
     Moment {
         started: 3,
         takes: [
-            &["GiveBack:12"],
-            &[OTHERS, "GiveBack:12 Left Left:family Left:not-listed"],
-            &[OTHERS, "GiveBack:12 Left Left:family Left:not-listed"],
+            &[CANCELS, "GiveBack:12 GiveBack:awaited"],
+            &[
+                CANCELS,
+                OTHERS,
+                "GiveBack:12 GiveBack:awaited Left Left:family Left:not-listed",
+            ],
+            &[
+                CANCELS,
+                OTHERS,
+                "GiveBack:12 GiveBack:awaited Left Left:family Left:not-listed",
+            ],
         ],
         next: Next::Take(Who::Third, Wire::Left((9, 2, Do::Exit, NEW_9))),
     },
@@ -292,9 +372,13 @@ pub(super) static LEADER_LIFE: [Moment; 15] = [
     Moment {
         started: 3,
         takes: [
-            &["GiveBack:12"],
-            &[OTHERS, "GiveBack:12 Left Left:not-listed"],
-            &[OTHERS, "GiveBack:12"],
+            &[CANCELS, "GiveBack:12 GiveBack:awaited"],
+            &[
+                CANCELS,
+                OTHERS,
+                "GiveBack:12 GiveBack:awaited Left Left:not-listed",
+            ],
+            &[CANCELS, OTHERS, "GiveBack:12 GiveBack:awaited"],
         ],
         next: Next::Take(Who::Child, Wire::Left((2, 1, Do::Exit, PARENT_2))),
     },
@@ -302,9 +386,9 @@ pub(super) static LEADER_LIFE: [Moment; 15] = [
     Moment {
         started: 3,
         takes: [
-            &["GiveBack:12"],
-            &[OTHERS, "GiveBack:12"],
-            &[OTHERS, "GiveBack:12"],
+            &[CANCELS, "GiveBack:12 GiveBack:awaited"],
+            &[CANCELS, OTHERS, "GiveBack:12 GiveBack:awaited"],
+            &[CANCELS, OTHERS, "GiveBack:12 GiveBack:awaited"],
         ],
         next: Next::Rest,
     },

@@ -38,18 +38,112 @@ const KEEPS_9: Body = &[(1, 1), (0, 56), (1, 1), (0, 3), (9, 1), (0, 2)];
 const ENDED: Body = &[(2, 1), (0, 1), (7, 1)];
 
 const GONE: Body = &[(3, 1)];
-/// An empty queue of 16,384 bytes; with one byte too many of those; and with a message that isn't there.
-pub(super) const QUEUE: Body = &[(4, 1), (0, 2), (64, 1), (0, 11)];
+/// An empty queue of 16,384 bytes, at which nobody waits; with one byte too many of those; and with a message that
+/// isn't there.
+pub(super) const QUEUE: Body = &[(4, 1), (0, 2), (64, 1), (0, 12)];
 
-const GREAT_QUEUE: Body = &[(4, 1), (0, 2), (64, 1), (1, 1), (0, 10)];
+const GREAT_QUEUE: Body = &[(4, 1), (0, 2), (64, 1), (1, 1), (0, 11)];
 
-const QUEUE_WITHOUT_ITS_MESSAGE: Body = &[(4, 1), (0, 2), (64, 1), (0, 10), (1, 1)];
+const QUEUE_WITHOUT_ITS_MESSAGE: Body = &[(4, 1), (0, 2), (64, 1), (0, 10), (1, 1), (0, 1)];
+/// An empty queue at which process 9 waits in a receive, on node 3; and so on node 9, where no node is.
+const AWAITED: Body = &[
+    (4, 1),
+    (0, 2),
+    (64, 1),
+    (0, 11),
+    (1, 1),
+    (3, 1),
+    (0, 3),
+    (1, 1),
+    (0, 3),
+    (9, 1),
+    (4, 1),
+    (0, 3),
+    (1, 1),
+    (0, 7),
+    (8, 1),
+    (0, 2),
+];
+
+const AWAITED_FROM_NOWHERE: Body = &[
+    (4, 1),
+    (0, 2),
+    (64, 1),
+    (0, 11),
+    (1, 1),
+    (9, 1),
+    (0, 3),
+    (1, 1),
+    (0, 3),
+    (9, 1),
+    (4, 1),
+    (0, 3),
+    (1, 1),
+    (0, 7),
+    (8, 1),
+    (0, 2),
+];
+/// The same queue with a message of type 1 and no text, which the one who waits could have; and with 33 who wait.
+const COULD_GO_ON: Body = &[
+    (4, 1),
+    (0, 2),
+    (64, 1),
+    (0, 10),
+    (1, 1),
+    (0, 3),
+    (1, 1),
+    (0, 2),
+    (1, 1),
+    (3, 1),
+    (0, 3),
+    (1, 1),
+    (0, 3),
+    (9, 1),
+    (4, 1),
+    (0, 3),
+    (1, 1),
+    (0, 7),
+    (8, 1),
+    (0, 2),
+];
+
+const AWAITED_BY_33: Body = &[(4, 1), (0, 2), (64, 1), (0, 11), (33, 1)];
+/// Process 9 waits there twice.
+const AWAITED_TWICE: Body = &[
+    (4, 1),
+    (0, 2),
+    (64, 1),
+    (0, 11),
+    (2, 1),
+    (3, 1),
+    (0, 3),
+    (1, 1),
+    (0, 3),
+    (9, 1),
+    (4, 1),
+    (0, 3),
+    (1, 1),
+    (0, 7),
+    (8, 1),
+    (0, 2),
+    (3, 1),
+    (0, 3),
+    (2, 1),
+    (0, 3),
+    (9, 1),
+    (4, 1),
+    (0, 3),
+    (1, 1),
+    (0, 7),
+    (8, 1),
+    (0, 2),
+];
 /// A set of one semaphore; with a value of 32,768; and without a semaphore.
-const SET: Body = &[(5, 1), (1, 1), (0, 6)];
+const SET: Body = &[(5, 1), (1, 1), (0, 7)];
 
-const GREAT_SET: Body = &[(5, 1), (1, 1), (128, 1), (0, 5)];
+const GREAT_SET: Body = &[(5, 1), (1, 1), (128, 1), (0, 6)];
 
-const EMPTY_SET: Body = &[(5, 1), (0, 1)];
+const EMPTY_SET: Body = &[(5, 1), (0, 2)];
 
 const REMOVED: Body = &[(6, 1)];
 
@@ -68,6 +162,8 @@ const P8: Named = Named::Proc(8);
 const P30: Named = Named::Proc(30);
 
 const P40: Named = Named::Proc(40);
+
+const Q0: Named = Named::Msg(0);
 
 pub(super) const Q1: Named = Named::Msg(1);
 
@@ -130,7 +226,7 @@ const WITH_HELD_9: &[Deed] = &[(P2, GONE), (P9, NEW)];
 // ---- frames to the child
 
 /// Each kind of frame, as it could come.
-pub(super) static CHILD_KINDS: [Row; 18] = [
+pub(super) static CHILD_KINDS: [Row; 19] = [
     ("Ask", Wire::Ask(Do::Stat(1))),
     ("Request", Wire::Request(Do::Stat(1))),
     ("Forward", Wire::Forward(Who::Third, Do::Stat(1))),
@@ -149,21 +245,35 @@ pub(super) static CHILD_KINDS: [Row; 18] = [
     ("RecallAll", Wire::RecallAll),
     ("Left", Wire::Left((9, 2, Do::Exit, NEW_9))),
     ("ExitTo", Wire::ExitTo((9, 2, Do::Exit, NEW_9))),
+    ("Cancel", Wire::Cancel(Who::Third, Do::Withdraw(Q1))),
 ];
 
-/// Calls that are asked for, and tickets.
-pub(super) static CHILD_CALLS: [Row; 15] = [
+/// Calls that are asked for, withdrawals, and tickets.
+pub(super) static CHILD_CALLS: [Row; 22] = [
     ("Request:own", Wire::Request(Do::GetPid)),
     ("Request:key", Wire::Request(Do::Get)),
     ("Request:removal", Wire::Request(Do::Remove(1))),
     ("Request:end", Wire::Request(Do::Exit)),
     ("Request:waits", Wire::Request(Do::Wait(1))),
+    ("Request:withdraws", Wire::Request(Do::Withdraw(Q1))),
     ("Forward:own", Wire::Forward(Who::Third, Do::GetPid)),
     ("Forward:key", Wire::Forward(Who::Third, Do::Get)),
     ("Forward:removal", Wire::Forward(Who::Third, Do::Remove(1))),
     ("Forward:end", Wire::Forward(Who::Third, Do::Exit)),
     ("Forward:waits", Wire::Forward(Who::Third, Do::Wait(1))),
+    (
+        "Forward:withdraws",
+        Wire::Forward(Who::Third, Do::Withdraw(Q1)),
+    ),
     ("Forward:no-node", Wire::Forward(Who::Nobody, Do::Stat(1))),
+    ("Cancel:own", Wire::Cancel(Who::Child, Do::Withdraw(Q1))),
+    ("Cancel:of-0", Wire::Cancel(Who::Third, Do::Withdraw(Q0))),
+    ("Cancel:process", Wire::Cancel(Who::Third, Do::Withdraw(P2))),
+    ("Cancel:call", Wire::Cancel(Who::Third, Do::Wait(1))),
+    (
+        "Cancel:no-node",
+        Wire::Cancel(Who::Nobody, Do::Withdraw(Q1)),
+    ),
     ("Answer:next", Wire::Answer(1)),
     ("Answer:last", Wire::Answer(u32::MAX)),
     ("NotOwner:next", Wire::NotOwner(1)),
@@ -211,8 +321,8 @@ pub(super) static CHILD_BIRTHS: [Row; 20] = [
     ("Checkpoint:no-doom", Wire::Checkpoint(2, (P2, NO_DOOM))),
 ];
 
-/// Queues and sets that move: not held, held, still to be given, and with bytes of no body.
-pub(super) static CHILD_MOVES: [Row; 15] = [
+/// Queues and sets that move: not held, held, still to be given, with bytes of no body, and with those who wait there.
+pub(super) static CHILD_MOVES: [Row; 20] = [
     ("Recall:process", Wire::Recall(P2)),
     ("Recall:not-held", Wire::Recall(Q30)),
     ("Recall:set", Wire::Recall(S1)),
@@ -231,6 +341,14 @@ pub(super) static CHILD_MOVES: [Row; 15] = [
     ),
     ("Grant:great-set", Wire::Grant((S1, GREAT_SET))),
     ("Grant:no-semaphore", Wire::Grant((S1, EMPTY_SET))),
+    ("Grant:awaited", Wire::Grant((Q30, AWAITED))),
+    (
+        "Grant:from-nowhere",
+        Wire::Grant((Q30, AWAITED_FROM_NOWHERE)),
+    ),
+    ("Grant:could-go-on", Wire::Grant((Q30, COULD_GO_ON))),
+    ("Grant:awaited-twice", Wire::Grant((Q30, AWAITED_TWICE))),
+    ("Grant:awaited-by-33", Wire::Grant((Q30, AWAITED_BY_33))),
 ];
 
 /// Parcels: of another process, for another parent, and with deeds that don't fit.
@@ -270,7 +388,7 @@ pub(super) static CHILD_ENDS: [Row; 18] = [
 // ---- frames to the leader
 
 /// Each kind of frame, as it could come.
-pub(super) static LEADER_KINDS: [Row; 18] = [
+pub(super) static LEADER_KINDS: [Row; 19] = [
     ("Ask", Wire::Ask(Do::Stat(1))),
     ("Request", Wire::Request(Do::Stat(1))),
     ("Forward", Wire::Forward(Who::Third, Do::Stat(1))),
@@ -289,33 +407,48 @@ pub(super) static LEADER_KINDS: [Row; 18] = [
     ("RecallAll", Wire::RecallAll),
     ("Left", Wire::Left((2, 1, Do::Exit, PARENT_2))),
     ("ExitTo", Wire::ExitTo((2, 1, Do::Exit, PARENT_2))),
+    ("Cancel", Wire::Cancel(Who::Third, Do::Withdraw(Q1))),
 ];
 
-/// Calls that are asked for, and tickets.
-pub(super) static LEADER_CALLS: [Row; 19] = [
+/// Calls that are asked for, withdrawals, and tickets.
+pub(super) static LEADER_CALLS: [Row; 27] = [
     ("Ask:own", Wire::Ask(Do::GetPid)),
     ("Ask:key", Wire::Ask(Do::Get)),
     ("Ask:removal", Wire::Ask(Do::Remove(1))),
     ("Ask:end", Wire::Ask(Do::Killed(Sig::Term))),
     ("Ask:waits", Wire::Ask(Do::Wait(1))),
+    ("Ask:withdraws", Wire::Ask(Do::Withdraw(Q1))),
     ("Request:own", Wire::Request(Do::GetPid)),
     ("Request:key", Wire::Request(Do::Get)),
     ("Request:removal", Wire::Request(Do::Remove(1))),
     ("Request:waits", Wire::Request(Do::Wait(1))),
+    ("Request:withdraws", Wire::Request(Do::Withdraw(Q1))),
     ("Bounce:own", Wire::Bounce(Who::Third, Do::GetPid)),
     ("Bounce:key", Wire::Bounce(Who::Third, Do::Get)),
     ("Bounce:removal", Wire::Bounce(Who::Third, Do::Remove(1))),
     ("Bounce:end", Wire::Bounce(Who::Third, Do::Exit)),
     ("Bounce:waits", Wire::Bounce(Who::Third, Do::Wait(1))),
+    (
+        "Bounce:withdraws",
+        Wire::Bounce(Who::Third, Do::Withdraw(Q1)),
+    ),
     ("Bounce:no-node", Wire::Bounce(Who::Nobody, Do::Stat(1))),
+    ("Cancel:own", Wire::Cancel(Who::Leader, Do::Withdraw(Q1))),
+    ("Cancel:of-0", Wire::Cancel(Who::Third, Do::Withdraw(Q0))),
+    ("Cancel:process", Wire::Cancel(Who::Third, Do::Withdraw(P2))),
+    ("Cancel:call", Wire::Cancel(Who::Third, Do::Wait(1))),
+    (
+        "Cancel:no-node",
+        Wire::Cancel(Who::Nobody, Do::Withdraw(Q1)),
+    ),
     ("Answer:next", Wire::Answer(1)),
     ("Answer:last", Wire::Answer(u32::MAX)),
     ("NotOwner:next", Wire::NotOwner(1)),
     ("NotOwner:last", Wire::NotOwner(u32::MAX)),
 ];
 
-/// Places and moves: of what can't move, to where nothing can be, and with bytes of no body.
-pub(super) static LEADER_MOVES: [Row; 11] = [
+/// Places and moves: of what can't move, to where nothing can be, with bytes of no body, and with those who wait there.
+pub(super) static LEADER_MOVES: [Row; 14] = [
     ("Placed:here", Wire::Placed(Q1, Who::Leader)),
     ("Placed:no-node", Wire::Placed(Q1, Who::Nobody)),
     ("Placed:leased", Wire::Placed(P8, Who::Child)),
@@ -327,6 +460,12 @@ pub(super) static LEADER_MOVES: [Row; 11] = [
     ("GiveBack:set", Wire::GiveBack((Q1, SET))),
     ("GiveBack:great-queue", Wire::GiveBack((Q12, GREAT_QUEUE))),
     ("GiveBack:nothing", Wire::GiveBack((Q12, NOTHING))),
+    ("GiveBack:awaited", Wire::GiveBack((Q12, AWAITED))),
+    (
+        "GiveBack:from-nowhere",
+        Wire::GiveBack((Q12, AWAITED_FROM_NOWHERE)),
+    ),
+    ("GiveBack:could-go-on", Wire::GiveBack((Q12, COULD_GO_ON))),
 ];
 
 /// Processes that leave, with numbers of no process, of the same one, of one that isn't made yet, and whose parent

@@ -22,8 +22,8 @@ pub(super) enum Named {
     Sem(u32),
 }
 
-/// A call: on its own process, on a process, on a queue, that removes a queue, that may wait at one, by a key, by a key
-/// that is none, and the two that end a process.
+/// A call: on its own process, on a process, on a queue, that removes a queue, that may wait at one, that withdraws
+/// from a name, by a key, by a key that is none, and the two that end a process.
 #[derive(Clone, Copy)]
 pub(super) enum Do {
     GetPid,
@@ -31,6 +31,7 @@ pub(super) enum Do {
     Stat(u32),
     Remove(u32),
     Wait(u32),
+    Withdraw(Named),
     Get,
     GetByNone,
     Exit,
@@ -70,6 +71,7 @@ pub(super) enum Wire {
     RecallAll,
     Left(Load),
     ExitTo(Load),
+    Cancel(Who, Do),
 }
 
 /// The variables c and q.
@@ -109,6 +111,9 @@ pub(super) fn call_of(what: Do) -> Call {
             size: 8,
             noerror: false,
             nowait: false,
+        },
+        Do::Withdraw(named) => Call::Withdraw {
+            name: name_of(named),
         },
         Do::Get => Call::MsgGet {
             key: Some(Key(7)),
@@ -197,6 +202,9 @@ fn with_call(wire: Wire) -> Frame {
         Wire::Bounce(caller, what) => Frame::Bounce {
             asked: asked_of(caller, what),
         },
+        Wire::Cancel(caller, what) => Frame::Cancel {
+            asked: asked_of(caller, what),
+        },
         _ => Frame::RecallAll,
     }
 }
@@ -276,7 +284,8 @@ pub(super) fn frame_of(alloc: Global, wire: Wire, started: u32) -> Result<Frame,
         | Wire::AskWithoutTicket(_)
         | Wire::Request(_)
         | Wire::Forward(_, _)
-        | Wire::Bounce(_, _) => Ok(with_call(wire)),
+        | Wire::Bounce(_, _)
+        | Wire::Cancel(_, _) => Ok(with_call(wire)),
         _ => Ok(with_names(wire)),
     }
 }

@@ -10,9 +10,9 @@ ghost use Rattle.node_serve.specs.declared.body.Body.TheVariants.{Ended};
 
 use deed_box::{Deed, Deeds, Shared};
 use fork_wait::Family;
-use node_serve::{Body, Row, Served, commit_exit, is_body, serve};
+use node_serve::{Body, Row, Served, Who, commit_exit, serve};
 use pico_base::{
-    Call, Ending, How, Id, Memory, Name, Outcome, Pid, Reply, Sig, SigSet, UnpackFault,
+    Bytes, Call, Ending, How, Id, Memory, Name, Node, Pid, Reply, Sig, SigSet, UnpackFault,
 };
 use rpc_frame::{PackedDeed, PackedDeeds, Parcel};
 use signal_state::Signals;
@@ -34,7 +34,7 @@ fn is_again(alloc: Global, name: Name, bytes: &[u8]) -> Result<bool, Fail> {
 /// Whether the body's bytes are those of the body that they are read as.
 fn comes_back(alloc: Global, body: &Body, name: Name) -> Result<bool, Fail> {
     let bytes = body.pack(alloc)?;
-    Ok(is_body(alloc, name, bytes.as_slice())? && is_again(alloc, name, bytes.as_slice())?)
+    is_again(alloc, name, bytes.as_slice())
 }
 
 /// A process that masks USR1.
@@ -54,8 +54,9 @@ fn a_process_s_body_comes_back(rt: HostRuntime) -> Result<(), Fail> {
 
 /// A queue with one message.
 fn queue_with_one(alloc: Global) -> Result<Kept, Memory> {
+    let text = Bytes::from_slice(alloc, b"abc")?;
     let mut queue = Queue::new(alloc)?;
-    let _ = queue.send_slice(Pid(1), 1, b"abc");
+    let _ = queue.send(Pid(1), 1, text);
     Ok(ManuallyDrop::new(Body::Queue(queue)))
 }
 
@@ -77,7 +78,7 @@ fn a_removed_queue_s_body_is_no_process_s(rt: HostRuntime) -> Result<(), Fail> {
     assert!(rt; is_again(rt.alloc(), name, &[6])?);
     assert!(rt; comes_back(rt.alloc(), &Body::Removed, name)?);
     assert!(rt; is_refused(rt.alloc(), Name::Proc(Pid(1)), &[6]));
-    assert!(rt; !is_body(rt.alloc(), name, &[6, 6])?);
+    assert!(rt; is_refused(rt.alloc(), name, &[6, 6]));
     Ok(())
 }
 
@@ -138,8 +139,12 @@ fn parcel_of_2(alloc: Global) -> Result<Parcel, Memory>
     parcel_of(alloc, &own)
 }
 
-/// The deeds that process 1 is left with by the end of process 2, and what the exit comes to.
-fn end_under_parent(rt: &impl Abort, alloc: Global) -> Result<(Deeds<Body>, Outcome), Fail> {
+/// The deeds that process 1 is left with by the end of process 2, and its reply where it waits for these children.
+fn end_under_parent(
+    rt: &impl Abort,
+    alloc: Global,
+    awaits: Option<Option<Pid>>,
+) -> Result<(Deeds<Body>, Option<Reply>), Fail> {
     let parcel = parcel_of_2(alloc)?;
     let parent = process_with(alloc, Pid(2))?;
     let mut deeds: Deeds<Body> = Deeds::new(alloc)?;
@@ -148,10 +153,10 @@ fn end_under_parent(rt: &impl Abort, alloc: Global) -> Result<(Deeds<Body>, Outc
         Ok(()) => {}
         Err(_) => unreachable!(),
     }
-    let Ok(outcome) = commit_exit(alloc, &mut deeds, parcel) else {
+    let Ok(own) = commit_exit(alloc, &mut deeds, parcel, awaits) else {
         panic!(rt; "refused");
     };
-    Ok((deeds, outcome))
+    Ok((deeds, own))
 }
 
 /// The processes that have ended, and the bytes of their bodies: process 2 keeps its ending, and its children are gone.
@@ -169,28 +174,43 @@ fn finds_it(alloc: Global, deeds: &mut Deeds<Body>) -> Result<bool, Fail> {
         child: None,
         nohang: true,
     };
-    match serve(alloc, deeds, Pid(1), &wait)? {
-        Served::Did { outcome, .. } => Ok(is_end_of_2(alloc, &outcome)),
-        Served::NotHeld => Ok(false),
+    let who = Who {
+        caller: Node(1),
+        ticket: 1,
+        pid: Pid(1),
+    };
+    match serve(alloc, deeds, &who, &wait)? {
+        Served::Did { own, .. } => Ok(is_end_of_2(&own)),
+        _ => Ok(false),
     }
 }
 
-fn is_end_of_2(alloc: Global, outcome: &Outcome) -> bool {
+fn is_end_of_2(own: &Option<Reply>) -> bool {
     let child = Reply::Child {
         pid: Pid(2),
         ending: Ending::Exited(7),
     };
-    *outcome == Outcome::reply(alloc, child)
+    *own == Some(child)
 }
 
 #[test]
 fn a_process_ends_under_its_parent(rt: HostRuntime) -> Result<(), Fail> {
-    let (deeds, outcome) = end_under_parent(&rt, rt.alloc())?;
-    let (mut deeds, outcome) = (ManuallyDrop::new(deeds), ManuallyDrop::new(outcome));
-    assert!(rt; *outcome == Outcome::reply(rt.alloc(), Reply::Ended));
+    let (deeds, own) = end_under_parent(&rt, rt.alloc(), None)?;
+    let mut deeds = ManuallyDrop::new(deeds);
+    assert!(rt; own.is_none());
     for (pid, bytes) in &ENDED {
         assert!(rt; has_bytes(rt.alloc(), &deeds, *pid, bytes)?, "{pid}");
     }
     assert!(rt; finds_it(rt.alloc(), &mut deeds)?);
+    Ok(())
+}
+
+/// A parent that waits for any child has its reply, and the child that it found is gone.
+#[test]
+fn a_parent_that_waits_is_woken(rt: HostRuntime) -> Result<(), Fail> {
+    let (deeds, own) = end_under_parent(&rt, rt.alloc(), Some(None))?;
+    let deeds = ManuallyDrop::new(deeds);
+    assert!(rt; is_end_of_2(&own));
+    assert!(rt; has_bytes(rt.alloc(), &deeds, 2, &[3])?);
     Ok(())
 }

@@ -1,13 +1,15 @@
 //! The known runs. A script is put as in a file; events stand as words: `2` where node 2 starts its next call, and
 //! `2<1` where it takes a frame from node 1. What is wanted comes from outside, and not from this program.
 
-/// A script, its events, and the trace that they leave; and whether no event may come then.
+/// A script, its events, and the trace that they leave; whether no event may come then, and whether a process waits for
+/// good then.
 pub(super) struct Row {
     pub(super) name: &'static str,
     pub(super) script: &'static str,
     pub(super) events: &'static str,
     pub(super) trace: &'static str,
     pub(super) rests: bool,
+    pub(super) stalled: bool,
 }
 
 /// A script that comes to rest by the numbers drawn from each of 1 to `seeds` on, always with these lines in its trace
@@ -73,7 +75,7 @@ const LEASES_SCRIPT: &str = concat!(
     "end\n"
 );
 
-pub(super) static ROWS: [Row; 14] = [
+pub(super) static ROWS: [Row; 17] = [
     // The fourth receive in a row by one other node moves the queue there: the fifth is carried out by the reader
     // itself.
     Row {
@@ -98,6 +100,7 @@ pub(super) static ROWS: [Row; 14] = [
             "totals entries 14 processes 2 notready 0 refused 0\n"
         ),
         rests: true,
+        stalled: false,
     },
     // A send finds the leader in the middle of collecting what the queue's owner held. It waits there, and is carried
     // out once, when the queue has come.
@@ -127,6 +130,7 @@ pub(super) static ROWS: [Row; 14] = [
             "totals entries 7 processes 3 notready 0 refused 0\n"
         ),
         rests: true,
+        stalled: false,
     },
     // The removal comes while the queue is on its way to its reader: the leader calls it back first. Afterwards the
     // key is free, and is bound to a new queue.
@@ -171,6 +175,7 @@ pub(super) static ROWS: [Row; 14] = [
             "totals entries 13 processes 3 notready 0 refused 0\n"
         ),
         rests: false,
+        stalled: false,
     },
     // The sender asks the owner that it has learnt, which no longer has the queue, and goes to the leader instead:
     // each send is carried out once.
@@ -215,6 +220,7 @@ pub(super) static ROWS: [Row; 14] = [
             "totals entries 13 processes 3 notready 0 refused 0\n"
         ),
         rests: false,
+        stalled: false,
     },
     // A child that has ended may still be signalled. Once it is waited for it is gone, as is a number that never was;
     // a signal that is none is refused before the process is looked for.
@@ -245,6 +251,7 @@ pub(super) static ROWS: [Row; 14] = [
             "totals entries 7 processes 2 notready 0 refused 3\n"
         ),
         rests: false,
+        stalled: false,
     },
     // The leader sends the first signal to the node whose range has the number. That node made the process and sent
     // it on, so the call comes back, and by then the leader has learnt the place. In the same range a number that
@@ -272,6 +279,7 @@ pub(super) static ROWS: [Row; 14] = [
             "totals entries 4 processes 3 notready 0 refused 1\n"
         ),
         rests: false,
+        stalled: false,
     },
     // A call that ends its own caller has its reply in the trace; the end by the signal is the next entry, and the
     // last call never starts.
@@ -292,6 +300,7 @@ pub(super) static ROWS: [Row; 14] = [
             "totals entries 3 processes 1 notready 0 refused 0\n"
         ),
         rests: true,
+        stalled: false,
     },
     // One grandchild ends first and stays for its parent to wait, the other ends when its parent is gone; neither is
     // there afterwards. The leader hears late where a process was placed that has ended since, and ignores it.
@@ -327,6 +336,7 @@ pub(super) static ROWS: [Row; 14] = [
             "totals entries 9 processes 4 notready 0 refused 2\n"
         ),
         rests: false,
+        stalled: false,
     },
     // A queue and a set may have the same key. A set that is found by its key may be asked for with no size or a
     // smaller one, and a new one must have a size.
@@ -358,6 +368,7 @@ pub(super) static ROWS: [Row; 14] = [
             "totals entries 9 processes 1 notready 0 refused 4\n"
         ),
         rests: true,
+        stalled: false,
     },
     // Without a child there is nothing to wait for; while it lives the reply is 0; its status is that of `exit`
     // modulo 256.
@@ -384,6 +395,7 @@ pub(super) static ROWS: [Row; 14] = [
             "totals entries 6 processes 2 notready 0 refused 1\n"
         ),
         rests: true,
+        stalled: false,
     },
     // Where the parent ignores CHLD its children are gone as they end.
     Row {
@@ -411,6 +423,7 @@ pub(super) static ROWS: [Row; 14] = [
             "totals entries 7 processes 2 notready 0 refused 2\n"
         ),
         rests: true,
+        stalled: false,
     },
     // What is pending stays with the parent; the mask is the child's, too, and travels with it to its node.
     Row {
@@ -440,6 +453,7 @@ pub(super) static ROWS: [Row; 14] = [
             "totals entries 8 processes 2 notready 0 refused 0\n"
         ),
         rests: true,
+        stalled: false,
     },
     // A lease has 8 numbers: the ninth fork has to ask the leader again, and the numbers go on.
     Row {
@@ -475,6 +489,7 @@ pub(super) static ROWS: [Row; 14] = [
             "totals entries 21 processes 11 notready 0 refused 0\n"
         ),
         rests: true,
+        stalled: false,
     },
     // What a process made and held when it exits comes to the leader with its values, and goes on there.
     Row {
@@ -499,6 +514,75 @@ pub(super) static ROWS: [Row; 14] = [
             "totals entries 5 processes 2 notready 0 refused 0\n"
         ),
         rests: false,
+        stalled: false,
+    },
+    // Nobody sends, so the world comes to rest with the receive under way.
+    Row {
+        name: "a receive waits for good",
+        script: "proc main\nq = msgget private\nmsgrcv $q 0 8\nend\n",
+        events: "1 1",
+        trace: concat!(
+            "1 msgget private = 1 by 1\n",
+            "1 msgrcv 1 0 8 = parked by 1\n",
+            "totals entries 2 processes 1 notready 0 refused 0\n"
+        ),
+        rests: true,
+        stalled: true,
+    },
+    // The signal finds the receive where it waits, at the leader: the node that it strikes withdraws it there.
+    Row {
+        name: "a signal that is caught interrupts a receive",
+        script: concat!(
+            "proc main\n",
+            "q = msgget private\n",
+            "c = fork child\n",
+            "kill $c USR1\n",
+            "end\n",
+            "proc child\n",
+            "sigaction USR1 catch\n",
+            "msgrcv $q 0 8\n",
+            "end\n"
+        ),
+        events: "1 1 2<1 2 2 1<2 1 2<1 1<2 1<2 2<1",
+        trace: concat!(
+            "1 msgget private = 1 by 1\n",
+            "1 fork child = 2 by 1\n",
+            "2 sigaction USR1 catch = 0 by 2\n",
+            "2 msgrcv 1 0 8 = parked by 1\n",
+            "1 kill 2 USR1 = 0 by 2\n",
+            "2 withdraw msg 1 = EINTR by 1\n",
+            "totals entries 6 processes 2 notready 0 refused 1\n"
+        ),
+        rests: false,
+        stalled: false,
+    },
+    // A process that a signal ends withdraws first, and its end comes behind that.
+    Row {
+        name: "a signal ends who waits",
+        script: concat!(
+            "proc main\n",
+            "q = msgget private\n",
+            "c = fork child\n",
+            "kill $c KILL\n",
+            "end\n",
+            "proc child\n",
+            "sigaction USR1 catch\n",
+            "msgrcv $q 0 8\n",
+            "end\n"
+        ),
+        events: "1 1 2<1 2 2 1<2 1 2<1 1<2 1<2 2<1 2 1<2 2<1 1<2",
+        trace: concat!(
+            "1 msgget private = 1 by 1\n",
+            "1 fork child = 2 by 1\n",
+            "2 sigaction USR1 catch = 0 by 2\n",
+            "2 msgrcv 1 0 8 = parked by 1\n",
+            "1 kill 2 KILL = 0 by 2\n",
+            "2 withdraw msg 1 = EINTR by 1\n",
+            "2 killed KILL = ended by 1\n",
+            "totals entries 7 processes 2 notready 0 refused 1\n"
+        ),
+        rests: false,
+        stalled: false,
     },
 ];
 

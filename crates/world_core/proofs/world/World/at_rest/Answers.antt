@@ -1,5 +1,5 @@
 use Rattle.std.proofs.Common.{Option, IfSome, IsTrue, subst}
-use Rattle.kernel_model.specs.Fitting.{FitsWhole}
+use Rattle.waiting_model.specs.Fitting.{FitsWhole}
 use Rattle.world_model.specs.World.{World}
 use Rattle.rest_laws.specs.Laws.{IsQuiet}
 use Rattle.world_core.proofs.Reached.{rest_has_all, rest_has_nothing_on_its_way}

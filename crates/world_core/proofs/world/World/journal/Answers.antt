@@ -1,5 +1,5 @@
 use Rattle.std.proofs.Common.{Option, IfSome, IsSome, sym, subst}
-use Rattle.kernel_model.specs.Fitting.{Fits}
+use Rattle.waiting_model.specs.Fitting.{Fits}
 use Rattle.world_model.specs.World.{World}
 use Rattle.world_core.proofs.Reached.{journal_is_legal, journal_fits}
 use Rattle.world_core.proofs.world.World.journal.Goals as goal
