@@ -37,6 +37,7 @@ escape_shrinks (x ∷ h ∷ l ∷ rest) b after e =
     let is = chosen (eqb x 120) (Some (16 * high.0 + low.0, rest)) (b, after) low.2 in
     omega (arith, ap length (some_pair_parts (16 * high.0 + low.0) b rest after is.1).1)
 
+-- a byte of a text takes at least one of the bytes that spell it
 pub text_byte_shrinks : (bytes : List ℕ) (b : ℕ) (after : List ℕ) → Some (b, after) ≡ text_byte_at bytes
     → length after < length bytes
 unfolding text_byte_at

@@ -16,8 +16,8 @@ const MAX_REPEATED: u32 = 8192;
 /// How many bytes are tested together.
 const WINDOW: usize = 16;
 
-/// Whether each byte stands for itself between quotes. Each is tested, also behind one that doesn't, so that the loop has
-/// no early end and becomes vector code.
+/// Whether each byte stands for itself between quotes. Each is tested, also behind one that doesn't, so that the loop
+/// has no early end and becomes vector code.
 fn all_plain(bytes: &[u8]) -> bool
     ensures { result ≡ list_all is_plain_byte bytes.now }
 {

@@ -154,6 +154,7 @@ pub record IsInGrammar (script : Script) (e : Entry) : Type 0 where
   pub low : 1 ≤ e.by
   pub high : e.by ≤ 32
 
+-- an entry that the test passes has a text
 pub in-grammar : (script : Script) (e : Entry) → is_entry script e ≡ true → IsInGrammar script e
 in-grammar script e h =
     let p = and_parts (is_u32 e.pid) (is_call script e.call && (is_outcome e.outcome && is_between 1 32 e.by)) h in

@@ -379,6 +379,7 @@ call script (calls.Withdraw (Sem id)) sound h = named (codes "withdraw sem ") id
 
 -- what a call came to
 
+-- the caller's own reply, or none, has no line feed
 pub own : (o : Option Reply) → is_own o ≡ true → IsFree (own_text o)
 own None h = refl
 own (Some r) h = reply r h
@@ -389,6 +390,7 @@ wake w h =
     both (codes " wakes " ++ decimal w.0) (32 ∷ reply_text w.1) (named (codes " wakes ") w.0 refl (u32-bound w.0 p.0))
     (behind 32 (reply_text w.1) refl (reply w.1 p.1))
 
+-- nor have those who are woken
 pub wakes : (ws : List (ℕ × Reply)) → list_all is_wake ws ≡ true → IsFree (flat_map wake_text ws)
 wakes ws h =
     each wake_text (λ w. is_wake w ≡ true) wake ws (all-from is_wake (λ w. is_wake w ≡ true) (λ w k. k) ws h)
