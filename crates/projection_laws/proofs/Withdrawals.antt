@@ -2,7 +2,7 @@
 -- it, and none before.
 use Rattle.std.proofs.Common.{◌≡◌, ◌≢◌, ◌⊎◌, ℕ, ◌+◌, ◌≤◌, Bool, true, false, ◌&&◌, nat_eq, cond, List, [], ◌∷◌, ◌++◌, filter, Option, Some, None, is_some, Contains, refl, ap, sym, subst, ◌∙◌, inl, inr, arith}
 use Rattle.std.specs.Prelude.{count_by}
-use Rattle.std.proofs.lemmas.Bool.{eq-eqb, false≢true}
+use Rattle.std.proofs.lemmas.Bool.{eq-eqb, eqb-true, false≢true}
 use Rattle.std.proofs.lemmas.List.Sums.{sum_by-cons}
 use Rattle.pico_base.specs.declared.call.Call.{Call}
 use Rattle.pico_base.specs.declared.call.Call.TheVariants as calls
@@ -29,7 +29,7 @@ use Rattle.world_model.specs.Census.{one_if}
 use Rattle.world_model.specs.Node.{Node, asked_here}
 use Rattle.world_model.specs.World.{World, node_count, size, stream}
 use Rattle.world_laws.specs.Callers.{HasCall, IsJustThere, call_sight, frame_at, is_about, is_held_at, is_in_hand, is_in_stream, may_be_in, only_if}
-use Rattle.world_laws.specs.Cancels.{CallMayWait, CancelHolds, CancelSight, FollowsItsCall, LeadsNowhere, MayBeInterrupted, Nothing, OfCall, WaitsForChild, asked_as, cancel_held_at, cancel_in_hand, cancel_in_stream, cancel_sight, is_doomed, is_held_of_call, is_of_call, is_struck}
+use Rattle.world_laws.specs.Cancels.{CallMayWait, CancelHolds, CancelSight, FollowsItsCall, IsCancelFrame, IsCancelItem, IsCancelOf, LeadsNowhere, MayBeInterrupted, Nothing, OfCall, WaitsForChild, asked_as, cancel_held_at, cancel_in_hand, cancel_in_stream, cancel_sight, is_cancel_of, is_doomed, is_held_cancel_of, is_held_of_call, is_of_call, is_struck}
 use Rattle.world_laws.specs.Invariant.{Holds}
 use Rattle.world_laws.specs.Places.{AsksLease, Beside, CallPlace, CancelHeld, CancelInHand, CancelPlace, HasLease, InAnswer, NoCancel, Parked, SentTo, ToLeader}
 use Rattle.world_laws.specs.Sights.{directory_of, frames_to, is_born_in, node_of}
@@ -41,8 +41,8 @@ use Rattle.rest_laws.proofs.Shaped.{HasStream, stream-there}
 use Rattle.projection_laws.specs.Projection.{GoesToNobody, IsInterruptedRightly, answers_to, cancels_call, cancels_of, frames_that, item_cancels, items_that}
 use Rattle.projection_laws.proofs.CallCounts.{answers-counted, has-call, own-number, pid-is}
 use Rattle.projection_laws.proofs.CallPlaces.{is_answer}
-use Rattle.projection_laws.proofs.Counts.{both-same, count-among, frames-at, items-none, items-one}
-use Rattle.projection_laws.proofs.Views.{node-here, some-node, stream-in-range, way-there}
+use Rattle.projection_laws.proofs.Counts.{both-same, count-among, count-none, frames-at, frames-none, items-none, items-one}
+use Rattle.projection_laws.proofs.Views.{each-in, node-here, some-node, stream-in-range, way-there}
 
 -- ---- where it is
 
@@ -382,6 +382,69 @@ module _ (script : Script) (w : World) (b : Beside) (holds : Holds script w [] b
       in let child : WaitsForChild false x = h.1
       in child.undoomed refl
 
+  -- and no withdrawal is of it: those that there are, are of earlier calls
+  module _ (own : is_object name ≡ false) where
+    earlier : (asked : Asked) → IsCancelOf x asked → nat_eq asked.ticket n.caller.ticket ≡ false
+    earlier asked of = by-test (nat_eq asked.ticket n.caller.ticket) refl
+      where
+        by-test : (t : Bool) → nat_eq asked.ticket n.caller.ticket ≡ t → nat_eq asked.ticket n.caller.ticket ≡ false
+        by-test false e = e
+        by-test true e =
+            absurd (false≢true (sym own ∙ of.current (eqb-true asked.ticket n.caller.ticket e) call under))
+
+    and-false : (s : Bool) → (s && false) ≡ false
+    and-false true = refl
+    and-false false = refl
+
+    no-frame : (f : Frame) → IsCancelFrame x f → cancels_call n f ≡ false
+    no-frame (frames.Cancel asked) of =
+        ap (λ t. nat_eq asked.caller n.number && t) (earlier asked of) ∙ and-false (nat_eq asked.caller n.number)
+    no-frame f of = absurd of
+
+    no-item : (item : Held) → IsCancelItem x item → item_cancels n item ≡ false
+    no-item (Request asked) of =
+        ap (λ t. nat_eq asked.caller n.number && (t && is_withdrawal asked.call)) (earlier asked of)
+        ∙ and-false (nat_eq asked.caller n.number)
+    no-item (Ending parcel) of = refl
+
+    no-other-frame : (f : Frame) → is_cancel_of p f ≡ false → cancels_call n f ≡ false
+    no-other-frame (frames.Cancel asked) e =
+        ap (λ q. nat_eq asked.caller q && nat_eq asked.ticket n.caller.ticket)
+        (own-number script w b holds p low high call under)
+        ∙ ap (λ t. t && nat_eq asked.ticket n.caller.ticket) e
+    no-other-frame f e = refl
+
+    no-other-item : (item : Held) → is_held_cancel_of p item ≡ false → item_cancels n item ≡ false
+    no-other-item (Request asked) e =
+        ap (λ q. nat_eq asked.caller q && (nat_eq asked.ticket n.caller.ticket && is_withdrawal asked.call))
+        (own-number script w b holds p low high call under)
+        ∙ nor (nat_eq asked.caller p) (nat_eq asked.ticket n.caller.ticket) (is_withdrawal asked.call) e
+      where
+        nor : (s t u : Bool) → (s && u) ≡ false → (s && (t && u)) ≡ false
+        nor false t u h = refl
+        nor true false u h = refl
+        nor true true u h = h
+    no-other-item (Ending parcel) e = refl
+
+    child-uncancelled : cancels_of w n ≡ 0
+    child-uncancelled =
+        let in_streams =
+        frames-none w (λ to sender. cancels_call n)
+        (λ to sender low_to low_from. ap (count_by (cancels_call n)) (sym (frames-low w to sender low_to low_from))
+        ∙ count-among (cancels_call n) (is_cancel_of p) (frames_to w to sender) (λ f at none. no-other-frame f none)
+        ∙ count-none (cancels_call n) (x.cancels to sender)
+        (λ f at. no-frame f
+        (each-in (IsCancelFrame x) (x.cancels to sender) f (cancel-holds.frames to sender) at)))
+        in let in_lists =
+        items-none (item_cancels n) w holds.leading
+        (node-here script w b holds 1 (omega arith) (some-node script w b holds))
+        (λ other. count-among (item_cancels n) (is_held_cancel_of p) (held_for (directory_of w) other)
+        (λ item at none. no-other-item item none)
+        ∙ count-none (item_cancels n) (x.held_cancels other)
+        (λ item at. no-item item
+        (each-in (IsCancelItem x) (x.held_cancels other) item (cancel-holds.held other) at)))
+        in omega (arith, in_streams, in_lists)
+
   -- ---- any
 
   is-doomed : {A : Type 0} (o : Option A) → o ≢ None → is_some o ≡ true
@@ -393,12 +456,16 @@ module _ (script : Script) (w : World) (b : Beside) (holds : Holds script w [] b
       → IsInterruptedRightly w b.whole n call alive
   is-interrupted alive lives =
       record {
-        struck = λ object some. sym (ap is_struck sees) ∙ struck-by object some;
+        struck = λ some. sym (ap is_struck sees) ∙ struck-at (is_object name) refl some;
         one = λ doomed. by-object (is_object name) refl (ap is_doomed sees ∙ is-doomed alive.row.signals.doom doomed);
       }
     where
       sees : x.alive ≡ Some alive
       sees = ap (living_at b.whole) (sym (pid-is script w b holds p low high call under)) ∙ lives
+
+      struck-at : (t : Bool) → is_object name ≡ t → 1 ≤ cancels_of w n → is_struck x.alive ≡ true
+      struck-at true object some = struck-by object some
+      struck-at false own some = absurd (let none = child-uncancelled own in omega (arith, some, none))
 
       by-object : (t : Bool) → is_object name ≡ t → is_doomed x.alive ≡ true
           → (cancels_of w n ≡ 1) ⊎ GoesToNobody w n call

@@ -34,7 +34,7 @@ use Rattle.node_model.specs.Bodies.{Body, whole_in, erase, waiters_of}
 use Rattle.node_model.specs.Serving.{waiting_as}
 use Rattle.node_model.specs.Caller.{caller_place}
 use Rattle.node_model.specs.Directory.{Place as NamePlace, has_deed_of, held_for, is_known, is_parcel, items_of, maker_in, stays}
-use Rattle.node_model.specs.Kinds.{Named, for_kind, get_named, is_object, is_same_kind, none_named}
+use Rattle.node_model.specs.Kinds.{Named, for_kind, get_named, is_same_kind, none_named}
 use Rattle.node_model.specs.Leases.{lease_of, takes_number}
 use Rattle.node_model.specs.Spelling.{pack, read_deed}
 use Rattle.world_model.specs.Census.{one_if}
@@ -352,11 +352,11 @@ pub record GoesToNobody (w : World) (n : Node) (call : Call) : Type 0 where
   pub leaves : stays leader.leader.directory node ≡ false
   pub unknown : is_known leader.leader.directory (waits_at n.pid call) ≡ false
 
--- A call without a reply that may have to wait: where it waits at a queue or a set, each withdrawal of it is of a
--- process that a signal has struck; and of a process that is doomed there is exactly one, or none is needed. (A
--- `waitpid` is interrupted at its caller, without any.)
+-- A call without a reply that may have to wait: each withdrawal of it is of a process that a signal has struck; and of a
+-- process that is doomed there is exactly one, or none is needed. (A `waitpid` is interrupted at its caller, without
+-- any.)
 pub record IsInterruptedRightly (w : World) (k : Kernel) (n : Node) (call : Call) (alive : Alive) : Type 0 where
-  pub struck : is_object (waits_at n.pid call) ≡ true → 1 ≤ cancels_of w n → alive.marks.struck ≡ true
+  pub struck : 1 ≤ cancels_of w n → alive.marks.struck ≡ true
   pub one : alive.row.signals.doom ≢ None → (cancels_of w n ≡ 1) ⊎ GoesToNobody w n call
 
 abbrev pub WithdrawalsFit : World → Kernel → Type 0

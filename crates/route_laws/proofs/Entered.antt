@@ -1,6 +1,6 @@
 -- One entry more in the kernel in which callers wait, with all whom it wakes: it stands beside the world afterwards,
 -- with each process's mark.
-use Rattle.std.proofs.Common.{◌≡◌, ◌≢◌, ℕ, Bool, true, false, if◌then◌else◌, List, [], ◌∷◌, ◌++◌, Option, Some, None, is_some, refl, ap, sym, subst, ◌∙◌, inl, inr, ◌≤◌, arith}
+use Rattle.std.proofs.Common.{◌≡◌, ◌≢◌, ℕ, Bool, true, false, if◌then◌else◌, List, [], ◌∷◌, ◌++◌, Option, Some, None, is_some, refl, ap, sym, subst, ◌∙◌, inl, inr, ◌≤◌}
 use Rattle.std.proofs.lemmas.Bool.{cases_eq, eq-eqb, ne_eqb, false≢true}
 use Rattle.pico_base.specs.declared.call.Call.{Call}
 use Rattle.pico_base.specs.declared.numbers.Name.{Name}
@@ -34,7 +34,7 @@ use Rattle.world_laws.specs.Places.{Beside, CancelPlace}
 use Rattle.world_laws.specs.Cancels.{LeadsNowhere, is_doomed, is_struck, CancelIf, Owing, Wakes, cancel_sight, CancelHolds, CancelSight, owing_of}
 use Rattle.world_laws.specs.Wholes.{HasMarks, HasWhole, under_way_at, WholeIf}
 use Rattle.node_model.specs.Caller.{Caller}
-use Rattle.world_laws.proofs.Cancels.{SameCancel, may_be_withdrawn}
+use Rattle.world_laws.proofs.Cancels.{SameCancel, later-on, may_be_withdrawn}
 use Rattle.world_laws.proofs.Following.{SameOld}
 use Rattle.world_laws.proofs.Wholes.{LivesAlike, lives-alike}
 use Rattle.world_laws.specs.Invariant.{HoldsOwing}
@@ -306,7 +306,7 @@ old-behind x y z g h =
     record {
       of = record {
         pid = g.of.pid ∙ h.of.pid;
-        ticket = let e = g.of.ticket in let more = h.of.ticket in omega (arith, e, more);
+        later = later-on x.caller y.caller z.caller g.of.later h.of.later;
       };
       cancels = λ to sender. g.cancels to sender ∙ h.cancels to sender;
       held_cancels = λ name. g.held_cancels name ∙ h.held_cancels name;

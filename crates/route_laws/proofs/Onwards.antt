@@ -1,5 +1,5 @@
 -- A call goes on without being carried out: it may be made wherever it is then, and its withdrawal stays behind it.
-use Rattle.std.proofs.Common.{◌≡◌, ◌≢◌, ℕ, Bool, true, false, if◌then◌else◌, List, [], filter, refl, ap, sym, subst, ◌∙◌, arith, append-nil}
+use Rattle.std.proofs.Common.{◌≡◌, ◌≢◌, ℕ, Bool, true, false, if◌then◌else◌, List, [], filter, refl, ap, sym, subst, ◌∙◌, append-nil}
 use Rattle.std.specs.List.{AllByRecursion}
 use Rattle.std.proofs.lemmas.Bool.{eq-eqb, ne_eqb, false≢true}
 use Rattle.pico_base.specs.declared.numbers.Name.{Name}
@@ -16,6 +16,7 @@ use Rattle.world_laws.specs.Sights.{node_of, directory_of, is_born_in}
 use Rattle.world_laws.specs.Callers.{CallHolds, call_sight}
 use Rattle.world_laws.specs.Cancels.{CancelIf, Owing, cancel_sight, is_cancel_of, is_held_cancel_of}
 use Rattle.world_laws.specs.Wholes.{HasMarks, WholeIf, under_way_at}
+use Rattle.world_laws.proofs.Cancels.{same-later}
 use Rattle.world_laws.proofs.Changes.{Changes, read-same}
 use Rattle.world_laws.proofs.Following.{CallGoesOn}
 use Rattle.world_laws.proofs.LeftAlone.{SameCaller}
@@ -91,14 +92,14 @@ module _ (script : Script) (p : ℕ) (w w' : World) (n : Node) (takes sends : Li
 
     goes : CallGoesOn x (cancel_sight w hand b x) (cancel_sight w' hand' gone_on x)
     goes =
-        let ticket : (node_of w x).caller.ticket ≡ (node_of w' x).caller.ticket =
-        ap (λ (k : Caller). k.ticket) caller-same
-        in record {
+        record {
           number_is = number;
           number = read (λ (m : Node). m.number) same.number x;
           caller = caller-same;
           old = old-still script p w w' n takes sends [] c hand hand' b gone_on x
-              (read (λ (m : Node). m.pid) same.pid x) (omega (arith, ticket)) held hand_is none_taken none_sent;
+              (read (λ (m : Node). m.pid) same.pid x)
+              (same-later (let m : Node = node_of w x in m.caller) (let m : Node = node_of w' x in m.caller)
+              caller-same) held hand_is none_taken none_sent;
           cancel = refl;
           goes = subst (λ z. goes_on z (gone_on.call x) ≡ true) (sym was)
               (subst (λ z. goes_on place z ≡ true) (sym is-there) on);

@@ -34,6 +34,7 @@ use Rattle.world_laws.specs.Ranges.{has_lease}
 use Rattle.world_laws.specs.Wholes.{HasMarks, under_way_at}
 use Rattle.world_laws.specs.Families.{NodeHolds}
 use Rattle.world_laws.specs.Invariant.{Holds}
+use Rattle.world_laws.proofs.Cancels.{IsLater, over-later}
 use Rattle.world_laws.proofs.Stays.{IsMore, SameCall, call-stays, name-stays, kind-stays}
 use Rattle.world_laws.proofs.Replied.{cancel-over}
 use Rattle.world_laws.proofs.Changes.{Changes, filter-is-list-map, only-stayed, read-same}
@@ -497,8 +498,9 @@ module _ (script : Script) (w : World) (b : Beside) (holds : Holds script w [] b
       in cancel-over p Nothing Nothing (cancel_sight w [] b p) (cancel_sight next [] moved p)
       (old-still script p w next after-node takes [] [] changes [] [] b moved p
       (sym (ap (λ (m : Node). m.pid) changes.here))
-      (subst (λ t. n.caller.ticket ≤ t)
-      (sym (ap (λ (m : Node). m.caller.ticket) changes.here ∙ is-answered.ticket_is)) (omega arith))
+      (subst (λ (m : Node). IsLater n.caller m.caller) (sym changes.here)
+      (let same = is-answered.ticket_is
+      in over-later n.caller after-node.caller (omega (arith, same)) is-answered.free))
       (λ name. ap (λ (d : Directory). filter (is_held_cancel_of p) (held_for d name)) same-there) refl
       (refl, tt) tt)
       (replied-uncancelled p Nothing (cancel_sight w [] b p) h_cancel call found.is

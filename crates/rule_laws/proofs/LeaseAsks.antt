@@ -37,7 +37,7 @@ use Rattle.world_laws.specs.Ranges.{kind_sight, KindHolds, has_lease, leases_on_
 use Rattle.world_laws.specs.Families.{NodeHolds}
 use Rattle.world_laws.specs.Invariant.{Holds, IsLeading}
 use Rattle.world_laws.proofs.Stays.{IsMore, SameCall, SameName, SameKind, call-stays, name-stays, kind-stays}
-use Rattle.world_laws.proofs.Cancels.{still-owed}
+use Rattle.world_laws.proofs.Cancels.{same-later, still-owed}
 use Rattle.world_laws.proofs.GoingOn.{cancel-goes-on}
 use Rattle.world_laws.proofs.Pairs.{goes_on}
 use Rattle.world_laws.proofs.Changes.{Changes, frames_if, sent, filter-is-list-map, flat_map-is-list-map, made-after, made-same, stayed, only-stayed, read-same}
@@ -541,7 +541,8 @@ module _ (script : Script) (w : World) (b : Beside) (holds : Holds script w [] b
         caller = sym (ap (λ (m : Node). m.caller) same);
         old = old-still script 1 w next after.node takes after.sends [] changes [] [] b moved q
             (sym (ap (λ (m : Node). m.pid) same))
-            (subst (λ (m : Node). (node_of w q).caller.ticket ≤ m.caller.ticket) (sym same) (omega arith))
+            (same-later (let m : Node = node_of w q in m.caller) (let m : Node = node_of next q in m.caller)
+            (ap (λ (m : Node). m.caller) (sym same)))
             (λ name. ap (λ (z : Directory). filter (is_held_cancel_of q) (held_for z name)) directory-now) refl
             (refl, tt) (refl, tt);
         cancel = refl;

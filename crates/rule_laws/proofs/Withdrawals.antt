@@ -1,7 +1,7 @@
 -- Calls that have no withdrawal: none is under way, or it has its reply. And the withdrawals that there are stay where
 -- an
 -- event takes and sends none.
-use Rattle.std.proofs.Common.{◌≡◌, ℕ, ◌≤◌, Bool, true, false, ◌&&◌, cond, List, [], ◌∷◌, filter, Option, Some, None, ap, sym, subst}
+use Rattle.std.proofs.Common.{◌≡◌, ℕ, Bool, true, false, ◌&&◌, cond, List, [], ◌∷◌, filter, Option, Some, None, ap, sym, subst}
 use Rattle.std.specs.List.{AllByRecursion}
 use Rattle.std.proofs.lemmas.Bool.{false≢true}
 use Rattle.pico_base.specs.declared.call.Call.{Call}
@@ -18,6 +18,7 @@ use Rattle.world_model.specs.World.{World}
 use Rattle.world_laws.specs.Places.{CallPlace, InAnswer, NoCancel, Beside}
 use Rattle.world_laws.specs.Sights.{node_of, directory_of}
 use Rattle.world_laws.specs.Cancels.{CancelHolds, CancelSight, MayBeInterrupted, OfCall, Owing, cancel_sight, has_reply, is_cancel_of, is_held_cancel_of, is_owed}
+use Rattle.world_laws.proofs.Cancels.{IsLater}
 use Rattle.world_laws.proofs.Following.{SameOld}
 use Rattle.world_laws.proofs.Changes.{Changes, filter-is-list-map, made-same}
 use Rattle.world_laws.proofs.Frames.{all-weaker}
@@ -55,16 +56,16 @@ dropped test f h = ap (λ b. cond b (f ∷ []) []) h
 -- they stay where none is taken, sent, or held elsewhere
 pub old-still : (script : Script) (p : ℕ) (w w' : World) (n : Node) (takes sends : List (ℕ × Frame))
     (entries : List Entry) → Changes script p w w' n takes sends entries → (hand hand' : List Held) (b b' : Beside)
-    (x : ℕ) → (node_of w x).pid ≡ (node_of w' x).pid → (node_of w x).caller.ticket ≤ (node_of w' x).caller.ticket
+    (x : ℕ) → (node_of w x).pid ≡ (node_of w' x).pid → IsLater (node_of w x).caller (node_of w' x).caller
     → ((name : Name)
     → filter (is_held_cancel_of x) (held_for (directory_of w') name)
     ≡ filter (is_held_cancel_of x) (held_for (directory_of w) name))
     → filter (is_held_cancel_of x) hand' ≡ filter (is_held_cancel_of x) hand
     → AllByRecursion (λ s. is_cancel_of x s.1 ≡ false) takes → AllByRecursion (λ s. is_cancel_of x s.1 ≡ false) sends
     → SameOld (cancel_sight w hand b x) (cancel_sight w' hand' b' x)
-old-still script p w w' n takes sends entries c hand hand' b b' x pid ticket held hand_is none_taken none_sent =
+old-still script p w w' n takes sends entries c hand hand' b b' x pid later held hand_is none_taken none_sent =
     record {
-      of = record { pid = pid; ticket = ticket };
+      of = record { pid = pid; later = later };
       cancels = λ to sender. sym (made-same script p w w' n takes sends entries c
           (λ t s fs. filter (is_cancel_of x) fs) (λ t s. filter-is-list-map (is_cancel_of x))
           (all-weaker (λ s none. dropped (is_cancel_of x) s.1 none) takes none_taken)

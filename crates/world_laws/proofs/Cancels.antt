@@ -1,14 +1,17 @@
 -- What holds of a call's withdrawal stays where neither is taken or sent; and the withdrawal stays behind its call
 -- where that goes on.
-use Rattle.std.proofs.Common.{◌≡◌, ℕ, ◌≤◌, Bool, true, false, ◌&&◌, cond, nat_eq, List, [], ◌∷◌, filter, Option, Some, None, is_some, refl, ap, sym, subst, ◌∙◌, arith}
+use Rattle.std.proofs.Common.{◌≡◌, ℕ, ◌+◌, ◌≤◌, Bool, true, false, ◌&&◌, cond, nat_eq, List, [], ◌∷◌, filter, Option, Some, None, if◌then◌else◌, is_some, slice_get, refl, ap, sym, subst, ◌∙◌, arith}
 use Rattle.std.specs.List.{AllByRecursion}
 use Rattle.pico_base.specs.declared.call.Call.{Call}
 use Rattle.pico_base.specs.declared.numbers.Name.{Name}
 use Rattle.pico_base.specs.declared.reply.Entry.{Entry}
+use Rattle.pico_base.specs.declared.reply.Reply.{Reply}
+use Rattle.pico_base.specs.declared.script.Line.{Line}
 use Rattle.pico_base.specs.declared.script.Script.{Script}
 use Rattle.rpc_frame.specs.declared.asked.Asked.{Asked}
 use Rattle.rpc_frame.specs.declared.frame.Frame.{Frame}
 use Rattle.rpc_frame.specs.declared.frame.Frame.TheVariants as frames
+use Rattle.kernel_model.specs.Fitting.{is_due_again, vars_after}
 use Rattle.waiting_model.specs.Calls.{may_park, waits_at}
 use Rattle.node_model.specs.declared.held.Held.{Held}
 use Rattle.node_model.specs.declared.held.Held.TheVariants.{Request, Ending}
@@ -19,7 +22,7 @@ use Rattle.world_model.specs.World.{World}
 use Rattle.world_laws.specs.Places.{CallPlace, Parked, Beside}
 use Rattle.world_laws.specs.Sights.{node_of, frames_to, directory_of}
 use Rattle.world_laws.specs.Callers.{is_about}
-use Rattle.node_model.specs.Caller.{Caller}
+use Rattle.node_model.specs.Caller.{Caller, answer_at, answer_call, end_call, lines_of}
 use Rattle.std.proofs.lemmas.Bool.{false≢true}
 use Rattle.world_laws.specs.Cancels.{CancelSight, CancelHolds, IsCancelOf, IsCancelFrame, IsCancelItem, LeadsNowhere, MayBeInterrupted, OfCall, Owing, cancel_sight, has_reply, is_cancel_of, is_held_cancel_of, is_of_call, is_held_of_call, is_owed, is_struck, is_doomed}
 use Rattle.world_laws.proofs.Changes.{Changes, filter-is-list-map, made-same}
@@ -33,10 +36,69 @@ first-of-both false b h = h
 
 -- ---- withdrawals, also old ones
 
+-- a caller later on: it has started as many calls, and what is under way as the same one was so before
+pub record IsLater (c d : Caller) : Type 0 where
+  pub ticket : c.ticket ≤ d.ticket
+  pub under_way : c.ticket ≡ d.ticket → (call : Call) → d.under_way ≡ Some call → c.under_way ≡ Some call
+
+module _ (c d : Caller) where
+  -- so it is where the call stays,
+  pub call-later : c.ticket ≡ d.ticket → c.under_way ≡ d.under_way → IsLater c d
+  call-later ticket stays =
+      record { ticket = omega (arith, ticket); under_way = λ same call e. stays ∙ e }
+
+  pub same-later : c ≡ d → IsLater c d
+  same-later same = call-later (ap (λ (k : Caller). k.ticket) same) (ap (λ (k : Caller). k.under_way) same)
+
+  -- where it is over,
+  pub over-later : c.ticket ≤ d.ticket → d.under_way ≡ None → IsLater c d
+  over-later ticket free =
+      record { ticket = ticket; under_way = λ same call e. absurd (differ call (sym free ∙ e)) }
+    where
+      differ : (call : Call) → None ≡ Some call → ⊥
+      differ call g = cc
+
+  -- and where another one was started
+  pub next-later : c.ticket + 1 ≤ d.ticket → IsLater c d
+  next-later more =
+      record { ticket = omega (arith, more); under_way = λ same call e. absurd (omega (arith, more, same)) }
+
+-- so it is where its reply has come
+pub answer-later : (script : Script) (block : ℕ) (c : Caller) (call : Call) (reply : Reply)
+    → IsLater c (answer_call script block c call reply)
+answer-later script block c call reply = by-line (slice_get (lines_of script block) c.line)
+  where
+    by-test : (line : Line) (t : Bool)
+        → IsLater c (if t then record (end_call c) { tried = c.tried + 1 } else record (end_call c) {
+          line = c.line + 1;
+          tried = 0;
+          vars = vars_after c.vars line.set reply;
+        })
+    by-test line true = over-later c (record (end_call c) { tried = c.tried + 1 }) (omega arith) refl
+    by-test line false =
+        over-later c
+        (record (end_call c) { line = c.line + 1; tried = 0; vars = vars_after c.vars line.set reply }) (omega arith)
+        refl
+
+    by-line : (o : Option Line) → IsLater c (answer_at c call reply o)
+    by-line None = over-later c (end_call c) (omega arith) refl
+    by-line (Some line) = by-test line (is_due_again call reply c.tried line.tries)
+
+-- later still
+pub later-on : (c d e : Caller) → IsLater c d → IsLater d e → IsLater c e
+later-on c d e g h =
+    let first = g.ticket
+    in let second = h.ticket
+    in record {
+      ticket = omega (arith, first, second);
+      under_way = λ same call under. g.under_way (omega (arith, first, second, same)) call
+          (h.under_way (omega (arith, first, second, same)) call under);
+    }
+
 -- each of the one sight is one of the other
 pub record KnowsTickets (x y : CancelSight) : Type 0 where
   pub pid : x.pid ≡ y.pid
-  pub ticket : x.caller.ticket ≤ y.caller.ticket
+  pub later : IsLater x.caller y.caller
 
 -- a withdrawal is one of a caller that has started as many calls
 pub cancel-of : (x y : CancelSight) (asked : Asked) → KnowsTickets x y → IsCancelOf x asked → IsCancelOf y asked
@@ -44,10 +106,16 @@ cancel-of x y asked k h =
     record {
       process = h.process ∙ k.pid;
       low = h.low;
-      high = let high = h.high in let more = k.ticket in omega (arith, high, more);
+      high = let high = h.high in let more = k.later.ticket in omega (arith, high, more);
       name = h.name;
       withdraws = h.withdraws;
       object = h.object;
+      current = λ same call under.
+          let high = h.high
+          in let more = k.later.ticket
+          in subst (λ pid. is_object (waits_at pid call) ≡ true) k.pid
+          (h.current (omega (arith, high, more, same)) call
+          (k.later.under_way (omega (arith, high, more, same)) call under));
     }
 
 frame-of : (x y : CancelSight) (frame : Frame) → KnowsTickets x y → IsCancelFrame x frame → IsCancelFrame y frame
@@ -246,9 +314,7 @@ cancel-stays p owes owes' x y s o h =
     }) h
   where
     knows : KnowsTickets x y
-    knows =
-        let same : x.caller.ticket ≡ y.caller.ticket = ap (λ (c : Caller). c.ticket) s.caller
-        in record { pid = s.pid; ticket = omega (arith, same) }
+    knows = record { pid = s.pid; later = same-later x.caller y.caller s.caller }
 
 -- ---- what a rule shows of the rest
 

@@ -208,6 +208,9 @@ pub record IsCancelOf (x : CancelSight) (asked : Asked) : Type 0 where
   pub name : Name
   pub withdraws : withdrawn_from asked.call ≡ Some name
   pub object : is_object name ≡ true
+  -- and where that call is still under way, it waits at one
+  pub current : asked.ticket ≡ x.caller.ticket → (call : Call) → x.caller.under_way ≡ Some call
+      → is_object (waits_at x.pid call) ≡ true
 
 abbrev pub IsCancelFrame : CancelSight → Frame → Type 0
 IsCancelFrame x (frames.Cancel asked) = IsCancelOf x asked

@@ -1,6 +1,6 @@
 -- A wait is broken off by a withdrawal: once the call has its reply all holds, also the kernel in which callers wait,
 -- and all other withdrawals.
-use Rattle.std.proofs.Common.{◌≡◌, ◌≢◌, ◌⊎◌, ℕ, ◌≤◌, Bool, true, false, nat_eq, List, [], ◌∷◌, ◌++◌, Option, Some, None, is_none, is_some, if◌then◌else◌, filter, refl, ap, sym, subst, ◌∙◌, inl, inr, arith}
+use Rattle.std.proofs.Common.{◌≡◌, ◌≢◌, ◌⊎◌, ℕ, ◌≤◌, Bool, true, false, nat_eq, List, [], ◌∷◌, ◌++◌, Option, Some, None, is_none, is_some, if◌then◌else◌, filter, refl, ap, sym, subst, ◌∙◌, inl, inr}
 use Rattle.std.specs.List.{AllByRecursion}
 use Rattle.std.proofs.lemmas.Bool.{cases_eq, eq-eqb, eqb-true, false≢true}
 use Rattle.pico_base.specs.declared.call.Call.{Call}
@@ -44,7 +44,7 @@ use Rattle.world_laws.specs.Callers.{HasCallOrNone, call_sight, is_about, may_be
 use Rattle.world_laws.specs.Cancels.{CancelHolds, CancelSight, IsCancelFrame, IsCancelItem, MayBeInterrupted, OfCall, Owing, Wakes, cancel_sight, has_reply, is_cancel_of, is_doomed, is_held_cancel_of, is_owed, is_struck, owing_of}
 use Rattle.world_laws.specs.Invariant.{HoldsOwing}
 use Rattle.world_laws.specs.Wholes.{HasMarks, HasWhole, under_way_at}
-use Rattle.world_laws.proofs.Cancels.{OldHold, SameCancel, cancel-left-alone, cancel-stays, frames-of, is_item_of, items-of, may_be_withdrawn}
+use Rattle.world_laws.proofs.Cancels.{IsLater, OldHold, SameCancel, cancel-left-alone, cancel-stays, frames-of, is_item_of, items-of, may_be_withdrawn, same-later}
 use Rattle.world_laws.proofs.Changes.{Changes, read-same}
 use Rattle.world_laws.proofs.Following.{SameOld}
 use Rattle.world_laws.proofs.LeftAlone.{SameCaller}
@@ -152,7 +152,7 @@ pub record IsBroken (script : Script) (w w2 : World) (rest : List Held) (b : Bes
       (entry_with p (b.pids x) withdrawal (reply_alone (replies.Fail Eintr)) ∷ [])
   pub same_caller : p ≢ x → SameCaller (node_of w p) node
   pub pid_is : node.pid ≡ (node_of w p).pid
-  pub ticket_is : node.caller.ticket ≡ (node_of w p).caller.ticket
+  pub later : IsLater (node_of w p).caller node.caller
   pub directory_is : node.leader.directory ≡ (node_of w p).leader.directory
   pub not_about : (y : ℕ) → y ≢ x → AllByRecursion (λ f. is_about y f.0 p f.1 ≡ false) sends
   pub no_cancel : (y : ℕ) → AllByRecursion (λ f. is_cancel_of y f.1 ≡ false) sends
@@ -337,12 +337,23 @@ module _ (script : Script) (w0 : World) (hand0 : List Held) (before : Bool) (v :
         };
       }) tt (broken.not_about y d) tt (broken.no_cancel y))
 
+  later-then : IsLater (node_of w x).caller (node_of w2 x).caller
+  later-then =
+      elim (cases_eq x p) [
+        | inl e ↦
+            subst (λ y. IsLater (node_of w y).caller (node_of w2 y).caller) (sym e)
+            (subst (λ (m : Node). IsLater (node_of w p).caller m.caller) (sym changes.here) broken.later)
+        | inr other ↦
+            same-later (node_of w x).caller (node_of w2 x).caller
+            (ap (λ (m : Node). m.caller) (sym (changes.others x other)))
+      ]
+
   old-then : OldHold (now x)
   old-then =
       old-there (cancel_sight w rest b1 x) (now x)
       (old-still script p w w2 broken.node [] broken.sends entries changes rest rest b1 ended x
       (sym (read (λ (m : Node). m.pid) broken.pid_is x))
-      (let e = read (λ (m : Node). m.caller.ticket) broken.ticket_is x in omega (arith, e))
+      later-then
       (λ m. ap (λ (z : Directory). filter (is_held_cancel_of x) (held_for z m)) directory-same) refl tt
       (broken.no_cancel x)) k.old
 

@@ -13,7 +13,7 @@ use Rattle.world_model.specs.Node.{Node}
 use Rattle.world_model.specs.World.{World, node_count}
 use Rattle.rule_laws.proofs.CallMoves.{cancel-if-same}
 use Rattle.world_laws.proofs.CancelMoves.{CancelTravels, old-travels}
-use Rattle.world_laws.proofs.Cancels.{KnowsTickets, OldHold, cancel-of, may_be_withdrawn}
+use Rattle.world_laws.proofs.Cancels.{KnowsTickets, OldHold, cancel-of, may_be_withdrawn, same-later}
 use Rattle.world_laws.proofs.Changes.{Changes, frames_if, read-same}
 use Rattle.world_laws.proofs.Heads.{head-from-another, head-is}
 use Rattle.world_laws.proofs.LeftAlone.{same-directory}
@@ -145,8 +145,11 @@ module _ (script : Script) (w w' : World) (b : Beside) (holds : HoldsOwing scrip
 
   knows : KnowsTickets (cancel_sight w [] b q) (cancel_sight w' [] (at_place NoCancel) q)
   knows =
-      let same : (node_of w' q).caller.ticket ≡ (node_of w q).caller.ticket = read (λ (m : Node). m.caller.ticket) q
-      in record { pid = sym (read (λ (m : Node). m.pid) q); ticket = omega (arith, same) }
+      record {
+        pid = sym (read (λ (m : Node). m.pid) q);
+        later = same-later (let m : Node = node_of w q in m.caller) (let m : Node = node_of w' q in m.caller)
+            (sym (read (λ (m : Node). m.caller) q));
+      }
 
   -- In the middle of the event all holds without it, but for what is said of withdrawals,
   pub taken-cleared : HoldsOwing script w' [] Wakes (record b { cancel = cancel_in b.cancel cancel.caller NoCancel })

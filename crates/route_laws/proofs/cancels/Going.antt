@@ -1,6 +1,6 @@
 -- A withdrawal goes from where it is in front to another place: the call's own follows the call from there, and an old
 -- one changes nothing that is said of the call.
-use Rattle.std.proofs.Common.{Bool, List, None, Option, Some, ap, arith, false, filter, if◌then◌else◌, inl, inr, not, refl, subst, sym, true, ℕ, ◌&&◌, ◌∙◌, ◌≡◌, ◌≢◌}
+use Rattle.std.proofs.Common.{Bool, List, None, Option, Some, ap, false, filter, if◌then◌else◌, inl, inr, not, refl, subst, sym, true, ℕ, ◌&&◌, ◌∙◌, ◌≡◌, ◌≢◌}
 use Rattle.std.proofs.lemmas.Bool.{cases_eq, eq-eqb, false≢true}
 use Rattle.pico_base.specs.declared.call.Call.TheVariants as calls
 use Rattle.pico_base.specs.declared.call.Call.{Call}
@@ -11,9 +11,10 @@ use Rattle.node_model.specs.Caller.{Caller}
 use Rattle.node_model.specs.Directory.{held_for}
 use Rattle.node_model.specs.Kinds.{is_object}
 use Rattle.node_model.specs.declared.held.Held.{Held}
+use Rattle.world_model.specs.Node.{Node}
 use Rattle.world_model.specs.World.{World}
 use Rattle.world_laws.proofs.CancelMoves.{CancelTravels, SameLists, earlier-travels, follows-there, old-travels}
-use Rattle.world_laws.proofs.Cancels.{KnowsTickets, OldHold, StaysOwed, cancel-of, may_be_withdrawn, of-call-holds, still-owed}
+use Rattle.world_laws.proofs.Cancels.{KnowsTickets, OldHold, StaysOwed, cancel-of, may_be_withdrawn, of-call-holds, same-later, still-owed}
 use Rattle.world_laws.proofs.Following.{WaitsAt, both-true, waits-at, withdrawal}
 use Rattle.world_laws.proofs.Interrupted.{IsInterrupted, interrupted-holds}
 use Rattle.world_laws.proofs.Pairs.{is_for_waiting}
@@ -88,8 +89,10 @@ module _ (p : ℕ) (owes : Owing) (w w' : World) (hand hand' : List Held) (b : B
 
   knows : (place : CancelPlace) → KnowsTickets x (y place)
   knows place =
-      let same : (node_of w' p).caller.ticket ≡ (node_of w p).caller.ticket = ap (λ (c : Caller). c.ticket) caller
-      in record { pid = sym pid; ticket = omega (arith, same) }
+      record {
+        pid = sym pid;
+        later = same-later x.caller (let m : Node = node_of w' p in m.caller) (sym caller);
+      }
 
   old : (place : CancelPlace) → OldHold (y place)
   old place =

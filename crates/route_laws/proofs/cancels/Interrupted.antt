@@ -1,24 +1,21 @@
 -- One who waits at a name is taken out by a withdrawal: what the step changes, and what holds then.
-use Rattle.std.proofs.Common.{◌≡◌, ◌≢◌, ℕ, ◌+◌, ◌++◌, ◌≤◌, Bool, true, false, nat_eq, List, [], ◌∷◌, Option, Some, None, if◌then◌else◌, slice_get, refl, ap, sym, subst, ◌∙◌, inr}
+use Rattle.std.proofs.Common.{◌≡◌, ◌≢◌, ℕ, ◌++◌, ◌≤◌, Bool, true, false, nat_eq, List, [], ◌∷◌, refl, ap, sym, subst, ◌∙◌, inr}
 use Rattle.std.specs.List.{AllByRecursion}
 use Rattle.std.proofs.lemmas.Bool.{ne_eqb}
-use Rattle.pico_base.specs.declared.call.Call.{Call}
 use Rattle.pico_base.specs.declared.numbers.Name.{Name}
 use Rattle.pico_base.specs.declared.reply.Errno.TheVariants.{Eintr}
 use Rattle.pico_base.specs.declared.reply.Reply.{Reply}
 use Rattle.pico_base.specs.declared.reply.Reply.TheVariants as replies
-use Rattle.pico_base.specs.declared.script.Line.{Line}
 use Rattle.pico_base.specs.declared.script.Script.{Script}
 use Rattle.rpc_frame.specs.declared.asked.Asked.{Asked}
 use Rattle.kernel_model.specs.Effect.{reply_alone}
-use Rattle.kernel_model.specs.Fitting.{is_due_again, vars_after}
 use Rattle.waiting_model.specs.declared.callers.Waiting.{Waiting}
 use Rattle.waiting_model.specs.Calls.{waits_at}
 use Rattle.waiting_model.specs.Linear.{line_of}
 use Rattle.waiting_model.specs.Transition.{withdrawn}
 use Rattle.node_model.specs.declared.held.Held.{Held}
 use Rattle.node_model.specs.Bodies.{waiters_of, whole_in}
-use Rattle.node_model.specs.Caller.{Caller, answer_at, answer_call, end_call, lines_of as block_lines}
+use Rattle.node_model.specs.Caller.{Caller}
 use Rattle.node_model.specs.Entries.{entry_with}
 use Rattle.node_model.specs.Kinds.{is_object, put_named}
 use Rattle.node_model.specs.Serving.{body_without, has_waiter}
@@ -32,6 +29,7 @@ use Rattle.world_laws.specs.Sights.{node_of}
 use Rattle.world_laws.specs.Callers.{is_about}
 use Rattle.world_laws.specs.Cancels.{Wakes, is_cancel_of}
 use Rattle.world_laws.specs.Invariant.{HoldsOwing}
+use Rattle.world_laws.proofs.Cancels.{IsLater, answer-later, same-later}
 use Rattle.world_laws.proofs.Changes.{Changes}
 use Rattle.world_laws.proofs.LeftAlone.{SameCaller}
 use Rattle.rule_laws.proofs.own.Moved.{IsCarriedOut, is_woken}
@@ -46,28 +44,11 @@ use Rattle.route_laws.proofs.served.Woken.{asked_from}
 
 -- ---- a node's own call
 
--- the reply leaves it its ticket
-answered-ticket : (script : Script) (block : ℕ) (c : Caller) (call : Call) (reply : Reply)
-    → (let next : Caller = answer_call script block c call reply in next.ticket) ≡ c.ticket
-answered-ticket script block c call reply = by-line (slice_get (block_lines script block) c.line)
-  where
-    by-test : (line : Line) (t : Bool)
-        → (let next : Caller = if t then record (end_call c) { tried = c.tried + 1 } else record (end_call c) {
-          line = c.line + 1;
-          tried = 0;
-          vars = vars_after c.vars line.set reply;
-        } in next.ticket) ≡ c.ticket
-    by-test line true = refl
-    by-test line false = refl
-
-    by-line : (o : Option Line) → (let next : Caller = answer_at c call reply o in next.ticket) ≡ c.ticket
-    by-line None = refl
-    by-line (Some line) = by-test line (is_due_again call reply c.tried line.tries)
-
-by-ticket : (script : Script) (own : Bool) (asked : Asked) (reply : Reply) (c : Caller)
-    → (let next : Caller = caller_by script own asked reply c in next.ticket) ≡ c.ticket
-by-ticket script true asked reply c = answered-ticket script asked.caller c asked.call reply
-by-ticket script false asked reply c = refl
+-- where it is this one it is over
+by-later : (script : Script) (own : Bool) (asked : Asked) (reply : Reply) (c : Caller)
+    → IsLater c (caller_by script own asked reply c)
+by-later script true asked reply c = answer-later script asked.caller c asked.call reply
+by-later script false asked reply c = same-later c c refl
 
 -- what is sent is about the caller's call, and no withdrawal
 sent-not-about : (y p : ℕ) (own : Bool) (asked : Asked) (reply : Reply) → y ≢ asked.caller
@@ -155,8 +136,8 @@ module _ (script : Script) (v : World) (p : ℕ) (s : Step) (it : Asked) (rest :
             (broken-changes script v p s it rest Wakes b holds at name object here who t.there t.caller_is t.ticket_is);
         same_caller = own-same;
         pid_is = ap (λ (m : Node). m.pid) (sym node-is);
-        ticket_is = by-ticket script mine (asked_from who) reply s.node.caller
-            ∙ ap (λ (m : Node). m.caller.ticket) (sym node-is);
+        later = subst (λ (m : Node). IsLater m.caller after-node.caller) (sym node-is)
+            (by-later script mine (asked_from who) reply s.node.caller);
         directory_is = ap (λ (m : Node). m.leader.directory) (sym node-is);
         not_about = λ y d. sent-not-about y p mine (asked_from who) reply (λ e. d (e ∙ t.caller_is));
         no_cancel = λ y. sent-no-cancel y mine (asked_from who) reply;

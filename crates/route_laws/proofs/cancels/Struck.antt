@@ -9,10 +9,12 @@ use Rattle.pico_base.specs.declared.numbers.Name.{Name}
 use Rattle.rpc_frame.specs.declared.asked.Asked.{Asked}
 use Rattle.waiting_model.specs.Calls.{waits_at}
 use Rattle.node_model.specs.Caller.{Caller}
+use Rattle.node_model.specs.Kinds.{is_object}
 use Rattle.node_model.specs.declared.held.Held.{Held}
+use Rattle.world_model.specs.Node.{Node}
 use Rattle.world_model.specs.World.{World}
 use Rattle.world_laws.proofs.CancelMoves.{CancelTravels, follows-there, old-travels}
-use Rattle.world_laws.proofs.Cancels.{KnowsTickets, OldHold, may_be_withdrawn}
+use Rattle.world_laws.proofs.Cancels.{KnowsTickets, OldHold, call-later, may_be_withdrawn}
 use Rattle.world_laws.proofs.Following.{WaitsAt, waits-at, withdrawal}
 use Rattle.world_laws.proofs.Interrupted.{IsInterrupted, interrupted-holds}
 use Rattle.world_laws.proofs.Pairs.{is_for_waiting}
@@ -29,6 +31,9 @@ pub record IsStruckCall (p : ℕ) (x : CancelSight) (call : Call) (name : Name) 
   pub name_is : waits_at x.pid call ≡ name
   pub unnoted : x.caller.noted ≡ false
   pub ticket : 1 ≤ x.caller.ticket
+
+same-call : (call other : Call) → Some call ≡ Some other → call ≡ other
+same-call call other h = cc
 
 -- so it has no withdrawal as yet
 none-as-yet : (noted : Bool) (c : CancelPlace) → noted ≡ false → (c ≢ NoCancel → noted ≡ true) → c ≡ NoCancel
@@ -65,11 +70,19 @@ module _ (p : ℕ) (w w' : World) (hand hand' : List Held) (b : Beside) (call : 
   at : WaitsAt x.pid call
   at = waits-at x.pid call s.waits
 
+  under-way-now : (node_of w' p).caller.under_way ≡ Some call
+  under-way-now = ap (λ (c : Caller). c.under_way) caller ∙ s.under_way
+
   same-ticket : x.caller.ticket ≡ (node_of w' p).caller.ticket
   same-ticket = sym (ap (λ (c : Caller). c.ticket) caller)
 
   knows : (c : CancelPlace) → KnowsTickets x (y c)
-  knows c = let same = same-ticket in record { pid = sym pid; ticket = omega (arith, same) }
+  knows c =
+      record {
+        pid = sym pid;
+        later = call-later x.caller (let m : Node = node_of w' p in m.caller) same-ticket
+            (ap (λ (k : Caller). k.under_way) (sym caller));
+      }
 
   of : (c : CancelPlace) → IsCancelOf (y c) cancel
   of c =
@@ -80,6 +93,10 @@ module _ (p : ℕ) (w w' : World) (hand hand' : List Held) (b : Beside) (call : 
         name = waits_at x.pid call;
         withdraws = refl;
         object = at.object;
+        current = λ same other under.
+            subst (λ q. is_object (waits_at q other) ≡ true) (sym pid)
+            (subst (λ z. is_object (waits_at x.pid z) ≡ true) (same-call call other (sym under-way-now ∙ under))
+            at.object);
       }
 
   old : (c : CancelPlace) → OldHold (y c)
@@ -100,9 +117,6 @@ module _ (p : ℕ) (w w' : World) (hand hand' : List Held) (b : Beside) (call : 
         hand = kept.hand;
         owed = λ owed some. absurd (false≢true owed);
       }
-
-  under-way-now : (node_of w' p).caller.under_way ≡ Some call
-  under-way-now = ap (λ (c : Caller). c.under_way) caller ∙ s.under_way
 
   asked-same : asked_as x call ≡ asked_as (y to) call
   asked-same = λ i. record {

@@ -1,6 +1,6 @@
 -- A signal interrupts a call that waits here: that is noted, and there is no withdrawal of it. What holds in the middle
 -- of the strike.
-use Rattle.std.proofs.Common.{◌≡◌, ◌≢◌, ℕ, ◌≤◌, true, false, nat_eq, [], ◌++◌, filter, if◌then◌else◌, Option, Some, is_some, refl, ap, sym, subst, ◌∙◌, append-nil, arith}
+use Rattle.std.proofs.Common.{◌≡◌, ◌≢◌, ℕ, ◌≤◌, true, false, nat_eq, [], ◌++◌, filter, if◌then◌else◌, Option, Some, is_some, refl, ap, sym, subst, ◌∙◌, append-nil}
 use Rattle.std.proofs.lemmas.Bool.{eq-eqb, ne_eqb}
 use Rattle.pico_base.specs.declared.call.Call.{Call}
 use Rattle.pico_base.specs.declared.call.Call.TheVariants as calls
@@ -19,7 +19,7 @@ use Rattle.world_laws.specs.Invariant.{HoldsOwing}
 use Rattle.world_laws.specs.Names.{NameHolds, name_sight}
 use Rattle.world_laws.specs.Wholes.{under_way_at}
 use Rattle.world_laws.proofs.CancelMoves.{CancelTravels}
-use Rattle.world_laws.proofs.Cancels.{cancel-left-alone, is_item_of}
+use Rattle.world_laws.proofs.Cancels.{call-later, cancel-left-alone, is_item_of}
 use Rattle.world_laws.proofs.Changes.{Changes, made-after, read-same, sent, stayed}
 use Rattle.world_laws.proofs.Following.{SameOld, old-holds}
 use Rattle.world_laws.proofs.LeftAlone.{DirectoryLeaves, same-directory}
@@ -129,7 +129,8 @@ module _ (script : Script) (w w' : World) (b : Beside) (p : ℕ) (low : 1 ≤ p)
   same-old : SameOld before (cancel_sight w' [] (cleared b p) p)
   same-old =
       old-still script p w w' n [] [] [] c [] [] b (cleared b p) p (sym (read (λ (m : Node). m.pid) refl p))
-      (let e = read (λ (m : Node). m.caller.ticket) refl p in omega (arith, e))
+      (call-later (let m : Node = node_of w p in m.caller) (let m : Node = node_of w' p in m.caller)
+      (sym (read (λ (m : Node). m.caller.ticket) refl p)) (sym (read (λ (m : Node). m.caller.under_way) refl p)))
       (λ m. ap (λ (z : Directory). filter (is_held_cancel_of p) (held_for z m)) directory-is) refl tt tt
 
   -- It is noted, and the process is struck.

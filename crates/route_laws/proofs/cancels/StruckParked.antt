@@ -19,10 +19,11 @@ use Rattle.world_laws.specs.Sights.{node_of}
 use Rattle.world_laws.specs.Cancels.{Wakes}
 use Rattle.world_laws.specs.Invariant.{HoldsOwing}
 use Rattle.world_laws.specs.Wholes.{under_way_at}
+use Rattle.world_laws.proofs.Cancels.{IsLater, answer-later}
 use Rattle.world_laws.proofs.Changes.{Changes}
 use Rattle.world_laws.proofs.Middles.{changes-further}
 use Rattle.rule_laws.proofs.own.Moved.{waited}
-use Rattle.route_laws.proofs.cancels.BrokenParked.{parked-birth, parked-made, unparked-answered, unparked-keeps, unparked_beside, unparked_node}
+use Rattle.route_laws.proofs.cancels.BrokenParked.{parked-birth, parked-made, unparked-keeps, unparked_beside, unparked_node}
 use Rattle.route_laws.proofs.cancels.BrokenWhole.{IsBroken}
 use Rattle.route_laws.proofs.cancels.WholeBodies.{bodies-alone}
 use Rattle.route_laws.proofs.served.Replies.{place_by}
@@ -108,7 +109,6 @@ module _ (script : Script) (v : World) (p : ℕ) (s : Step) (b : Beside)
       (world_after v p (over_at_once)) [] b p p withdrawal (Proc (b.pids p))
   parked-broken =
       let made = parked-made script w [] b holds p low high which under_way parked
-      in let answered = unparked-answered script w [] b holds p low high which under_way parked
       in record {
         beside = after;
         holds = unparked-keeps script w1 [] b holds-entered p low high which under-way-then parked w2 further;
@@ -134,8 +134,8 @@ module _ (script : Script) (v : World) (p : ℕ) (s : Step) (b : Beside)
         changes = changes;
         same_caller = λ other. absurd (other refl);
         pid_is = ap (λ (m : Node). m.pid) (sym node-is);
-        ticket_is = ap (λ (m : Node). (let k = answer_call script p m.caller call reply in k.ticket)) (sym node-is)
-            ∙ answered.ticket_is;
+        later = subst (λ (m : Node). IsLater m.caller over_at_once.node.caller) (sym node-is)
+            (answer-later script p s.node.caller call reply);
         directory_is = ap (λ (m : Node). m.leader.directory) (sym node-is);
         not_about = λ y d. tt;
         no_cancel = λ y. tt;

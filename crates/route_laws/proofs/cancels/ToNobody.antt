@@ -13,7 +13,7 @@ use Rattle.world_model.specs.Node.{Node}
 use Rattle.world_model.specs.World.{World, node_count}
 use Rattle.rule_laws.proofs.CallMoves.{cancel-if-same}
 use Rattle.world_laws.proofs.CancelMoves.{CancelTravels, old-travels}
-use Rattle.world_laws.proofs.Cancels.{KnowsTickets, OldHold, cancel-of, may_be_withdrawn}
+use Rattle.world_laws.proofs.Cancels.{KnowsTickets, OldHold, cancel-of, may_be_withdrawn, same-later}
 use Rattle.world_laws.proofs.Changes.{Changes, IsListMap, frames_if, made-after, sent, stayed}
 use Rattle.world_laws.proofs.LeftAlone.{name-left-alone, same-directory}
 use Rattle.world_laws.proofs.Stays.{IsMore, name-stays}
@@ -142,9 +142,11 @@ module _ (script : Script) (w w' : World) (cancel : Asked) (rest : List Held) (o
 
   knows : KnowsTickets (cancel_sight w hand b p) (cancel_sight w' rest (at_place NoCancel) p)
   knows =
-      let same : (node_of w' p).caller.ticket ≡ (node_of w p).caller.ticket =
-      ap (λ (m : Node). m.caller.ticket) (same-nodes p)
-      in record { pid = ap (λ (m : Node). m.pid) (sym (same-nodes p)); ticket = omega (arith, same) }
+      record {
+        pid = ap (λ (m : Node). m.pid) (sym (same-nodes p));
+        later = same-later (let m : Node = node_of w p in m.caller) (let m : Node = node_of w' p in m.caller)
+            (ap (λ (m : Node). m.caller) (sym (same-nodes p)));
+      }
 
   -- In the middle of the event all holds without it, but for what is said of withdrawals,
   pub hand-cleared : HoldsOwing script w' rest Wakes (record b { cancel = cancel_in b.cancel cancel.caller NoCancel })

@@ -1,6 +1,6 @@
 -- What is held for names that have come to a node is in the leader's hand, also the withdrawals of calls, each behind
 -- its call. All holds of them as before.
-use Rattle.std.proofs.Common.{◌≡◌, Bool, List, None, Option, Some, [], ap, append-nil, false, flat_map, if◌then◌else◌, refl, subst, sym, true, ℕ, ◌&&◌, ◌++◌, ◌||◌, ◌∙◌, ◌∷◌, arith}
+use Rattle.std.proofs.Common.{◌≡◌, Bool, List, None, Option, Some, [], ap, append-nil, false, flat_map, if◌then◌else◌, refl, subst, sym, true, ℕ, ◌&&◌, ◌++◌, ◌||◌, ◌∙◌, ◌∷◌}
 use Rattle.std.specs.List.{AllByRecursion}
 use Rattle.std.proofs.lemmas.Bool.{false≢true}
 use Rattle.pico_base.specs.declared.call.Call.{Call}
@@ -17,7 +17,7 @@ use Rattle.world_laws.specs.Cancels.{CallMayWait, CancelSight, FollowsItsCall, I
 use Rattle.world_laws.specs.Places.{CallPlace, CancelHeld, CancelInHand, CancelPlace, IsHeld, IsInHand, NoCancel, Parked, SentByPlace, SentByRange, SentTo, ToLeader, Waits}
 use Rattle.world_laws.specs.Callers.{frame_at, is_held_at, is_in_hand, is_in_stream, only_if}
 use Rattle.world_laws.proofs.Named.{other-name, same-name, same-name-is}
-use Rattle.world_laws.proofs.Cancels.{KnowsTickets, frames-of, items-of}
+use Rattle.world_laws.proofs.Cancels.{KnowsTickets, frames-of, items-of, same-later}
 use Rattle.world_laws.specs.Wholes.{HasMarks}
 use Rattle.world_laws.proofs.Wholes.{marks-go-on}
 use Rattle.node_model.specs.declared.held.Held.{Held}
@@ -361,7 +361,7 @@ module _ (names : List Name) where
         (has_reply place) h
 
     tickets : KnowsTickets x y
-    tickets = record { pid = refl; ticket = omega arith }
+    tickets = record { pid = refl; later = same-later x.caller x.caller refl }
 
     held-items : (name : Name) → AllByRecursion (IsCancelItem x) (x.held_cancels name)
         → AllByRecursion (IsCancelItem y) (y.held_cancels name)

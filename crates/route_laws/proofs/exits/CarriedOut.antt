@@ -1,5 +1,5 @@
 -- An exit is carried out at a node: all holds again, once the parent, where the exit wakes it, has its reply.
-use Rattle.std.proofs.Common.{Bool, List, None, Some, [], ap, arith, false, if◌then◌else◌, map, refl, subst, sym, true, ℕ, ◌||◌, ◌∙◌, ◌∷◌, ◌≡◌, ◌≢◌, append_assoc, ◌++◌, filter, inl, inr, is_none}
+use Rattle.std.proofs.Common.{Bool, List, None, Some, [], ap, false, if◌then◌else◌, map, refl, subst, sym, true, ℕ, ◌||◌, ◌∙◌, ◌∷◌, ◌≡◌, ◌≢◌, append_assoc, ◌++◌, filter, inl, inr, is_none}
 use Rattle.std.proofs.lemmas.Bool.{false≢true, eq-eqb, ne_eqb, cases_eq}
 use Rattle.pico_base.specs.declared.call.Call.{Call}
 use Rattle.pico_base.specs.declared.call.Call.TheVariants.{WaitPid}
@@ -37,7 +37,7 @@ use Rattle.world_laws.specs.Deeds.{DeedsAreRead}
 use Rattle.world_laws.specs.Wholes.{HasMarks, HasWhole, under_way_at}
 use Rattle.world_laws.specs.Invariant.{HoldsOwing}
 use Rattle.world_laws.specs.Families.{IsWhereFor}
-use Rattle.world_laws.proofs.Cancels.{SameCancel, cancel-left-alone, is_item_of}
+use Rattle.world_laws.proofs.Cancels.{IsLater, SameCancel, answer-later, cancel-left-alone, is_item_of, later-on, same-later}
 use Rattle.world_laws.proofs.Following.{SameOld}
 use Rattle.world_laws.specs.Sights.{node_of, directory_of}
 use Rattle.node_model.specs.Bodies.{Body, body_in, waiters_of, Deeds, Living as LivingBody}
@@ -76,7 +76,7 @@ old-on x y z g h =
     record {
       of = record {
         pid = g.pid ∙ h.of.pid;
-        ticket = let e = ap (λ (k : Caller). k.ticket) g.caller in let more = h.of.ticket in omega (arith, e, more);
+        later = later-on x.caller y.caller z.caller (same-later x.caller y.caller g.caller) h.of.later;
       };
       cancels = λ to sender. g.cancels to sender ∙ h.cancels to sender;
       held_cancels = λ name. g.held_cancels name ∙ h.held_cancels name;
@@ -476,12 +476,8 @@ module _ (script : Script) (w : World) (hand : List Held) (x : ℕ) (strikes : B
               old-on (s x) (cancel_sight w1 hand1 b1 x) (cancel_sight w2 hand1 b2 x) (s_same x)
               (old-still script x w1 w2 woken_then [] [] [] further hand1 hand1 b1 b2 x
               (sym (ap (λ (z : Node). z.pid) further.here))
-              (let e : (node_of w2 x).caller.ticket ≡ (node_of w1 x).caller.ticket =
-              ap (λ (z : Node). z.caller.ticket) further.here
-              ∙ (woken-answered script w1 hand1 b1 ended x living.low living.high waiting.child reply after.row
-              after.left
-              waits-here exit_whole woken_deeds deeds-by).ticket_is
-              in omega (arith, e))
+              (subst (λ (z : Node). IsLater (let m : Node = node_of w1 x in m.caller) z.caller) (sym further.here)
+              (answer-later script x (let m : Node = node_of w1 x in m.caller) (WaitPid waiting.child false) reply))
               (λ name. ap (λ (z : Directory). filter (is_held_cancel_of x) (held_for z name)) same-there) refl tt tt)
 
           uncancelled-then : b2.cancel x ≡ NoCancel

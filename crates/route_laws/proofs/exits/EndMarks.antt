@@ -1,6 +1,6 @@
 -- After the end of a process: the kernel in which callers wait stands beside the world, and of withdrawals all holds as
 -- before, but for the strike of a parent.
-use Rattle.std.proofs.Common.{Bool, None, Some, ap, false, if◌then◌else◌, inl, inr, is_some, refl, subst, sym, true, ℕ, ◌∙◌, ◌≡◌, ◌≢◌, List, [], ◌++◌, ◌∷◌, Option, arith, nat_eq, not, ◌&&◌, ◌||◌, ◌⊎◌}
+use Rattle.std.proofs.Common.{Bool, None, Some, ap, false, if◌then◌else◌, inl, inr, is_some, refl, subst, sym, true, ℕ, ◌∙◌, ◌≡◌, ◌≢◌, List, [], ◌++◌, ◌∷◌, Option, nat_eq, not, ◌&&◌, ◌||◌, ◌⊎◌}
 use Rattle.std.proofs.lemmas.Bool.{cases_eq, false≢true, eqb-true}
 use Rattle.std.specs.Option.{option_map_or}
 use Rattle.pico_base.specs.declared.signal.Act.{Act}
@@ -46,7 +46,7 @@ use Rattle.world_laws.specs.Names.{NameHolds, name_sight}
 use Rattle.world_laws.specs.Cancels.{Owing, Wakes, CancelHolds, CancelSight, OfCall, cancel_sight, is_doomed, is_owed, is_struck, owing_of}
 use Rattle.world_laws.specs.Sights.{is_born_in, node_of}
 use Rattle.world_laws.specs.Families.{HoldsIn, NodeHolds}
-use Rattle.world_laws.proofs.Cancels.{OldHold, SameCancel, StaysOwed, cancel-stays, may_be_withdrawn}
+use Rattle.world_laws.proofs.Cancels.{OldHold, SameCancel, StaysOwed, cancel-stays, may_be_withdrawn, same-later}
 use Rattle.world_laws.proofs.Following.{never-cancelled, old-holds}
 use Rattle.world_laws.proofs.Owed.{owed-of-others}
 use Rattle.waiting_laws.proofs.Struck.{EndsWhole, end-strikes, IsStruck}
@@ -253,7 +253,7 @@ ends-uncancelled p owes owes' s t call same under_way an_end ends none h =
     let kept : OldHold t =
     old-holds p owes s t
     (record {
-      of = record { pid = same.pid; ticket = let e = ap (λ (z : Caller). z.ticket) same.caller in omega (arith, e) };
+      of = record { pid = same.pid; later = same-later s.caller t.caller same.caller };
       cancels = same.cancels;
       held_cancels = same.held_cancels;
       hand_cancels = same.hand_cancels;

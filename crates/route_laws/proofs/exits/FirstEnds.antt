@@ -60,7 +60,7 @@ use Rattle.world_laws.specs.Invariant.{Holds, IsLeading, process_deed}
 use Rattle.world_laws.specs.Ranges.{FewRanges, KeysHold, kind_sight, leases_on_way}
 use Rattle.world_laws.specs.Ways.{knows_parent, way_sight}
 use Rattle.world_laws.specs.Wholes.{HasMarks, HasWhole, under_way_at}
-use Rattle.world_laws.proofs.Cancels.{SameCancel, cancel-left-alone, is_item_of}
+use Rattle.world_laws.proofs.Cancels.{SameCancel, cancel-left-alone, is_item_of, next-later}
 use Rattle.world_laws.proofs.Changes.{Changes, filter-is-list-map, made-same, read-same, still-born}
 use Rattle.world_laws.proofs.LeftAlone.{LeavesCall, call-left-alone, frames-still-fit, kind-left-alone, name-left-alone, other-node-stays, parcel-was-there, same-directory, sender-stays, way-left-alone}
 use Rattle.world_laws.proofs.Lines.{IsAnswered, answered, due-at-line}
@@ -765,8 +765,8 @@ module _ (script : Script) (sound : IsSoundScript script) (w : World) (b : Besid
       ap (λ (m : Node). m.caller.ticket) changes.here ∙ is-answered.ticket_is
       in cancel-over 1 Nothing Nothing (cancel_sight w [] b 1) (cancel_sight w2 [] first_over 1)
       (old-still script 1 w w2 now [] [] (entry ∷ []) changes [] [] b first_over 1
-      (sym (ap (λ (m : Node). m.pid) changes.here)) (omega (arith, ticket)) (held-same (is_held_cancel_of 1)) refl tt
-      tt)
+      (sym (ap (λ (m : Node). m.pid) changes.here)) (next-later n.caller (let m : Node = node_of w2 1 in m.caller) (omega (arith, ticket)))
+      (held-same (is_held_cancel_of 1)) refl tt tt)
       (starts-uncancelled script w b holds 1 low high s) (inl none-now) (λ owed. absurd (false≢true owed))
       (holds.cancels 1 low high)
 

@@ -32,7 +32,7 @@ use Rattle.world_laws.specs.Cancels.{CancelSight, Owing, cancel_sight, is_cancel
 use Rattle.world_laws.proofs.Changes.{Changes, filter-is-list-map, made-same, read-same}
 use Rattle.world_laws.specs.Ways.{HasSender, under_way_of}
 use Rattle.world_laws.specs.Invariant.{HoldsOwing}
-use Rattle.world_laws.proofs.Cancels.{SameCancel}
+use Rattle.world_laws.proofs.Cancels.{IsLater, SameCancel}
 use Rattle.world_laws.proofs.Following.{SameOld}
 use Rattle.world_laws.specs.Sights.{directory_of, frames_to, node_of, stage_of}
 use Rattle.world_laws.specs.Deeds.{DeedsAreRead}
@@ -139,11 +139,11 @@ module _ (script : Script) (w : World) (items : List Held) (parcel : Parcel) {ow
       same-ticket = ap (λ (z : Caller). z.ticket) same_caller
 
   -- and withdrawals of a call whose caller goes on
-  pub seen-old : (b' : Beside) (y : ℕ) → (node_of w y).caller.ticket ≤ (node_of w' y).caller.ticket
+  pub seen-old : (b' : Beside) (y : ℕ) → IsLater (node_of w y).caller (node_of w' y).caller
       → SameOld (seen_before y) (cancel_sight w' hand_now b' y)
-  seen-old b' y newer =
+  seen-old b' y later =
       record {
-        of = record { pid = sym (same (λ (m : Node). m.pid) pid y); ticket = newer };
+        of = record { pid = sym (same (λ (m : Node). m.pid) pid y); later = later };
         cancels = λ to s. sym (made-same script 1 w w' n [] [] entries changes
             (λ t r fs. filter (is_cancel_of y) fs) (λ t r. filter-is-list-map (is_cancel_of y)) tt tt to s);
         held_cancels = λ name. sym (held-now (is_held_cancel_of y) name);

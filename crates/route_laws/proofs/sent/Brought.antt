@@ -1,5 +1,5 @@
 -- A node takes a frame with a call, of another node or of its own: in the middle of the event the call is in hand.
-use Rattle.std.proofs.Common.{◌≡◌, ◌≢◌, ◌⊎◌, ℕ, ◌≤◌, Bool, true, false, ◌&&◌, not, cond, if◌then◌else◌, List, [], ◌∷◌, ◌++◌, filter, flat_map, nat_eq, is_some, Some, refl, ap, sym, subst, ◌∙◌, inl, inr, arith}
+use Rattle.std.proofs.Common.{◌≡◌, ◌≢◌, ◌⊎◌, ℕ, ◌≤◌, Bool, true, false, ◌&&◌, not, cond, if◌then◌else◌, List, [], ◌∷◌, ◌++◌, filter, flat_map, nat_eq, is_some, Some, refl, ap, sym, subst, ◌∙◌, inl, inr}
 use Rattle.std.proofs.lemmas.Bool.{cases_eq, eq-eqb, ne_eqb, false≢true}
 use Rattle.std.proofs.lemmas.List.Elements.{Contains-push_cases}
 use Rattle.pico_base.specs.declared.call.Call.{Call}
@@ -33,7 +33,7 @@ use Rattle.world_laws.specs.Cancels.{CancelIf, Nothing, Owing, Wakes, cancel_sig
 use Rattle.world_laws.specs.Ranges.{lease_in, has_lease}
 use Rattle.world_laws.specs.Invariant.{Holds, HoldsOwing}
 use Rattle.world_laws.specs.Wholes.{HasWhole, WholeIf}
-use Rattle.world_laws.proofs.Cancels.{SameCancel, may_be_withdrawn}
+use Rattle.world_laws.proofs.Cancels.{SameCancel, may_be_withdrawn, same-later}
 use Rattle.world_laws.proofs.Following.{SameOld}
 use Rattle.rule_laws.proofs.Withdrawals.{old-still}
 use Rattle.route_laws.proofs.sent.Uncancelled.{is_parked_place, uncancelled-goes}
@@ -318,7 +318,8 @@ module _ (script : Script) (w : World) (b : Beside) (holds : Holds script w [] b
   old-there : SameOld (cancel_sight w [] b caller) (cancel_sight next hand moved caller)
   old-there =
       old-still script p w next n takes [] [] brought-changes [] hand b moved caller (read (λ (m : Node). m.pid))
-      (let same = read (λ (m : Node). m.caller.ticket) in omega (arith, same))
+      (same-later (let m : Node = node_of w caller in m.caller) (let m : Node = node_of next caller in m.caller)
+      (read (λ (m : Node). m.caller)))
       (λ name. ap (λ d. filter (is_held_cancel_of caller) (held_for d name)) brought-directory)
       (ap (λ t. cond t (Request asked ∷ []) []) (no-held-cancel asked caller u.is_call)) (u.no_cancel caller, tt) tt
 

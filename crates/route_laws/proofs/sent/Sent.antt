@@ -1,6 +1,6 @@
 -- A call in hand at a node goes on in a frame, and isn't carried out: it comes back to the leader, its caller is told
 -- that the node isn't the owner, or the leader is asked.
-use Rattle.std.proofs.Common.{◌≡◌, ◌≢◌, ℕ, ◌≤◌, Bool, true, false, ◌&&◌, not, cond, if◌then◌else◌, List, [], ◌∷◌, ◌++◌, filter, flat_map, nat_eq, is_some, refl, ap, sym, subst, ◌∙◌, inl, inr, arith}
+use Rattle.std.proofs.Common.{◌≡◌, ◌≢◌, ℕ, ◌≤◌, Bool, true, false, ◌&&◌, not, cond, if◌then◌else◌, List, [], ◌∷◌, ◌++◌, filter, flat_map, nat_eq, is_some, refl, ap, sym, subst, ◌∙◌, inl, inr}
 use Rattle.std.proofs.lemmas.Bool.{cases_eq, eq-eqb, eqb-true, ne_eqb, false≢true}
 use Rattle.std.proofs.lemmas.List.Elements.{Contains-append_right}
 use Rattle.pico_base.specs.declared.call.Call.{Call}
@@ -33,7 +33,7 @@ use Rattle.world_laws.specs.Invariant.{Holds, MayBe}
 use Rattle.world_laws.specs.Wholes.{WholeIf}
 use Rattle.world_laws.specs.Ranges.{has_lease, lease_in}
 use Rattle.world_laws.proofs.Changes.{Changes, filter-is-list-map, flat_map-is-list-map, frames_if, made-after, made-same, only-stayed, read-same, sent, stayed}
-use Rattle.world_laws.proofs.Cancels.{may_be_withdrawn}
+use Rattle.world_laws.proofs.Cancels.{may_be_withdrawn, same-later}
 use Rattle.world_laws.proofs.Following.{SameOld}
 use Rattle.world_laws.proofs.Wholes.{is_to_be_made}
 use Rattle.world_laws.proofs.Frames.{concerns, is_plain}
@@ -312,8 +312,8 @@ module _ (script : Script) (w : World) (b : Beside) (p : ℕ) (asked : Asked) (g
   old-there : SameOld (cancel_sight w hand b caller) (cancel_sight w' [] moved caller)
   old-there =
       old-still script p w w' n [] sends [] c hand [] b moved caller (read (λ (m : Node). m.pid) same-caller.pid)
-      (let same = read (λ (m : Node). m.caller.ticket) (ap (λ (k : Caller). k.ticket) same-caller.caller)
-      in omega (arith, same))
+      (same-later (let m : Node = node_of w caller in m.caller) (let m : Node = node_of w' caller in m.caller)
+      (read (λ (m : Node). m.caller) same-caller.caller))
       (λ name. ap (λ d. filter (is_held_cancel_of caller) (held_for d name)) same-directory-now)
       (sym (ap (λ t. cond t (Request asked ∷ []) []) (no-held-cancel asked caller asks.is_call))) tt
       (o.no_cancel caller, tt)

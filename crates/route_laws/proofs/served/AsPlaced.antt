@@ -1,12 +1,12 @@
 -- A call that was sent by the range of its name's number, to a node where it doesn't lead nowhere, has its withdrawal
 -- where it would have it, had it been sent by the name's place.
-use Rattle.std.proofs.Common.{◌≡◌, ℕ, Bool, true, false, Option, Some, None, refl, arith}
+use Rattle.std.proofs.Common.{◌≡◌, ℕ, Bool, true, false, Option, Some, None, refl}
 use Rattle.pico_base.specs.declared.call.Call.{Call}
 use Rattle.pico_base.specs.declared.call.Call.TheVariants as calls
 use Rattle.waiting_model.specs.Calls.{waits_at}
 use Rattle.world_laws.specs.Places.{CancelPlace, CancelHeld, CancelInHand, NoCancel, SentByPlace, SentByRange, SentTo, ToLeader}
 use Rattle.world_laws.specs.Cancels.{CallMayWait, CancelHolds, CancelSight, FollowsItsCall, LeadsNowhere, MayBeInterrupted, OfCall, Owing, asked_as, is_owed, may_follow}
-use Rattle.world_laws.proofs.Cancels.{OldHold, may_be_withdrawn}
+use Rattle.world_laws.proofs.Cancels.{OldHold, may_be_withdrawn, same-later}
 use Rattle.world_laws.proofs.Following.{SameOld, old-holds}
 
 may-follow-placed : (cancel : CancelPlace) (h : ℕ) → may_follow cancel (SentByRange h) ≡ true
@@ -63,7 +63,7 @@ module _ (p : ℕ) (owes : Owing) (x : CancelSight) (h : ℕ) where
       → LeadsNowhere ranged (waits_at x.pid call) → ⊥) → CancelHolds p owes ranged → CancelHolds p owes placed
   as-placed nowhere m =
       let same : SameOld ranged placed = record {
-        of = record { pid = refl; ticket = omega arith };
+        of = record { pid = refl; later = same-later x.caller x.caller refl };
         cancels = λ to sender. refl;
         held_cancels = λ name. refl;
         hand_cancels = refl;

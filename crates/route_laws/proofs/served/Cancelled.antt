@@ -1,6 +1,6 @@
 -- The withdrawals once a call was served: who has a reply has none, a call that parks leaves its own behind, and those
 -- of others are where they were.
-use Rattle.std.proofs.Common.{◌≡◌, ◌≢◌, ◌⊎◌, ℕ, ◌≤◌, Bool, true, false, ◌||◌, cond, if◌then◌else◌, List, [], ◌∷◌, ◌++◌, filter, nat_eq, Option, Some, None, is_some, refl, ap, sym, subst, ◌∙◌, inl, inr, arith}
+use Rattle.std.proofs.Common.{◌≡◌, ◌≢◌, ◌⊎◌, ℕ, ◌≤◌, Bool, true, false, ◌||◌, cond, if◌then◌else◌, List, [], ◌∷◌, ◌++◌, filter, nat_eq, Option, Some, None, is_some, refl, ap, sym, subst, ◌∙◌, inl, inr}
 use Rattle.std.specs.List.{AllByRecursion}
 use Rattle.std.proofs.lemmas.Bool.{cases_eq, eq-eqb, eqb-true, false≢true, ne_eqb}
 use Rattle.pico_base.specs.declared.call.Call.{Call}
@@ -34,7 +34,7 @@ use Rattle.world_laws.specs.Cancels.{CancelHolds, CancelIf, CancelSight, Owing, 
 use Rattle.world_laws.specs.Families.{NodeHolds}
 use Rattle.world_laws.specs.Wholes.{HasWhole}
 use Rattle.world_laws.specs.Invariant.{HoldsOwing}
-use Rattle.world_laws.proofs.Cancels.{SameCancel, StaysOwed, cancel-left-alone, cancel-stays, is_item_of}
+use Rattle.world_laws.proofs.Cancels.{IsLater, SameCancel, StaysOwed, cancel-left-alone, cancel-stays, is_item_of, same-later}
 use Rattle.world_laws.proofs.Changes.{Changes, read-same}
 use Rattle.world_laws.proofs.Following.{CallGoesOn, SameOld}
 use Rattle.world_laws.proofs.GoingOn.{cancel-goes-on}
@@ -68,7 +68,7 @@ pub record IsStepOf (script : Script) (v : World) (p : ℕ) (s t : Step) (asked 
   -- the node
   pub number : t.node.number ≡ (node_of (world_after v p s) p).number
   pub pid : t.node.pid ≡ (node_of (world_after v p s) p).pid
-  pub ticket : t.node.caller.ticket ≡ (node_of (world_after v p s) p).caller.ticket
+  pub later : IsLater (node_of (world_after v p s) p).caller t.node.caller
   pub same_caller : (p ≡ asked.caller → d.own ≡ None) → is_among p woken ≡ false
       → SameCaller (node_of (world_after v p s) p) t.node
   pub strikes : t.strikes ≡ (s.strikes || serving.is_struck s.node name asked.call)
@@ -230,11 +230,23 @@ module _ (script : Script) (v : World) (p : ℕ) (s t : Step) (asked : Asked) (r
   changes : Changes script p u w' t.node earlier.takes g.sends g.entries
   changes = earlier.changes w' t.node g.sends g.entries g.changes
 
+  later-there : (y : ℕ) → IsLater (node_of u y).caller (node_of w' y).caller
+  later-there y =
+      subst (λ (n : Node). IsLater n.caller (node_of w' y).caller) (earlier.nodes y)
+      (elim (cases_eq y p) [
+        | inl e ↦
+            subst (λ q. IsLater (node_of w q).caller (node_of w' q).caller) (sym e)
+            (subst (λ (n : Node). IsLater (node_of w p).caller n.caller) (sym g.changes.here) g.later)
+        | inr other ↦
+            same-later (node_of w y).caller (node_of w' y).caller
+            (ap (λ (n : Node). n.caller) (sym (g.changes.others y other)))
+      ])
+
   old-there : (y : ℕ) → SameOld (x y) (x' y)
   old-there y =
       old-still script p u w' t.node earlier.takes g.sends g.entries changes hand rest beside-before after y
       (sym (node-same (λ (n : Node). n.pid) g.pid y))
-      (let same = sym (node-same (λ (n : Node). n.caller.ticket) g.ticket y) in omega (arith, same))
+      (later-there y)
       (λ m. ap (λ (e : Directory). filter (is_held_cancel_of y) (held_for e m)) directory-same)
       (earlier.cancel_items y) (earlier.no_cancel y) (g.no_cancel y)
 

@@ -1,6 +1,6 @@
 -- A node carries out the first call of its hand, which has its reply and wakes nobody: the kernel in which callers wait
 -- stands beside the world then, the call's withdrawal is over, and those of others are where they were.
-use Rattle.std.proofs.Common.{◌≡◌, ◌≢◌, ℕ, ◌≤◌, Bool, true, false, cond, if◌then◌else◌, List, [], ◌∷◌, ◌++◌, filter, nat_eq, Option, Some, None, is_some, refl, ap, sym, subst, ◌∙◌, inl, inr, arith}
+use Rattle.std.proofs.Common.{◌≡◌, ◌≢◌, ℕ, Bool, true, false, cond, if◌then◌else◌, List, [], ◌∷◌, ◌++◌, filter, nat_eq, Option, Some, None, is_some, refl, ap, sym, subst, ◌∙◌, inl, inr}
 use Rattle.std.specs.List.{AllByRecursion}
 use Rattle.std.specs.Prelude.{slice_get}
 use Rattle.std.proofs.lemmas.Bool.{cases_eq, eq-eqb, eqb-true, false≢true, ne_eqb}
@@ -41,7 +41,7 @@ use Rattle.world_laws.specs.Callers.{CallSight, HasCall, IsSoFar, IsToBeMade, ca
 use Rattle.world_laws.specs.Cancels.{CancelHolds, CancelIf, CancelSight, Owing, cancel_sight, is_doomed, is_held_cancel_of, has_reply, is_cancel_of, is_struck, owing_of}
 use Rattle.world_laws.specs.Wholes.{HasMarks, HasWhole, WholeIf, under_way_at}
 use Rattle.world_laws.specs.Invariant.{HoldsOwing, IsShaped}
-use Rattle.world_laws.proofs.Cancels.{SameCancel, StaysOwed, cancel-stays}
+use Rattle.world_laws.proofs.Cancels.{IsLater, SameCancel, StaysOwed, answer-later, cancel-stays, same-later}
 use Rattle.world_laws.proofs.Changes.{Changes}
 use Rattle.world_laws.proofs.Lines.{IsAnswered, answered, due-at-line}
 use Rattle.world_laws.proofs.Replied.{IsOver, cancel-over}
@@ -322,7 +322,7 @@ module _ (script : Script) (w : World) (asked : Asked) (rest : List Held) (p : �
           ≡ filter (is_held_cancel_of caller) (held_for (directory_of w) m))
           → SameOld (cancel_sight w hand b caller) (cancel_sight w' rest moved caller)
       old-here pid_same held =
-          old-still script p w w' n [] sends _ c hand rest b moved caller (pid-by own refl) (ticket-by own refl) held
+          old-still script p w w' n [] sends _ c hand rest b moved caller (pid-by own refl) (later-by own refl) held
           (sym (ap (λ t. cond t (Request asked ∷ filter (is_held_cancel_of caller) rest)
           (filter (is_held_cancel_of caller) rest)) (no-held-cancel asked caller asks.is_call)))
           tt (subst (λ fs. AllByRecursion (λ s. is_cancel_of caller s.1 ≡ false) fs) (sym sends_are)
@@ -335,8 +335,10 @@ module _ (script : Script) (w : World) (asked : Asked) (rest : List Held) (p : �
               ∙ ap (λ q. (let m : Node = node_of w' q in m.pid)) (sym (own-node e))
           pid-by false e = sym (ap (λ (m : Node). m.pid) (same-elsewhere e))
 
-          ticket-by : (t : Bool) → own ≡ t → (node_of w caller).caller.ticket ≤ (node_of w' caller).caller.ticket
-          ticket-by true e =
-              let same = ap (λ (k : Caller). k.ticket) (caller-then e) ∙ is-answered.ticket_is in omega (arith, same)
-          ticket-by false e =
-              let same = ap (λ (m : Node). m.caller.ticket) (same-elsewhere e) in omega (arith, same)
+          later-by : (t : Bool) → own ≡ t → IsLater (node_of w caller).caller (node_of w' caller).caller
+          later-by true e =
+              subst (λ k. IsLater x.caller k) (sym (caller-then e))
+              (answer-later script caller x.caller is-first.call reply)
+          later-by false e =
+              same-later (node_of w caller).caller (node_of w' caller).caller
+              (ap (λ (m : Node). m.caller) (sym (same-elsewhere e)))

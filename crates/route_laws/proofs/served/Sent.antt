@@ -1,21 +1,18 @@
 -- What steps that answer calls send, and what becomes of the node's own call.
-use Rattle.std.proofs.Common.{◌≡◌, ℕ, Bool, true, false, if◌then◌else◌, List, [], ◌∷◌, ◌++◌, nat_eq, Option, Some, None, refl, ap, sym, ◌∙◌, append-nil, append_assoc, ◌+◌}
+use Rattle.std.proofs.Common.{◌≡◌, ℕ, Bool, true, false, if◌then◌else◌, List, [], ◌∷◌, ◌++◌, nat_eq, Option, Some, None, refl, ap, sym, ◌∙◌, append-nil, append_assoc}
 use Rattle.std.specs.List.{AllByRecursion}
-use Rattle.std.specs.Prelude.{slice_get}
 use Rattle.std.proofs.lemmas.Bool.{false≢true, or_parts, eq-eqb}
 use Rattle.pico_base.specs.declared.call.Call.{Call}
 use Rattle.pico_base.specs.declared.reply.Reply.{Reply}
-use Rattle.pico_base.specs.declared.script.Line.{Line}
 use Rattle.pico_base.specs.declared.script.Script.{Script}
 use Rattle.rpc_frame.specs.declared.frame.Frame.{Frame}
 use Rattle.rpc_frame.specs.declared.frame.Frame.TheVariants as frames
-use Rattle.kernel_model.specs.Fitting.{is_due_again, vars_after}
-use Rattle.node_model.specs.Caller.{Caller, answer_at, end_call, lines_of}
 use Rattle.world_model.specs.Node.{under_way_as}
 use Rattle.world_model.specs.Step.{Step, reply_here, send}
 use Rattle.world_model.specs.World.{node_count}
 use Rattle.world_laws.specs.Callers.{is_about}
 use Rattle.world_laws.specs.Cancels.{is_cancel_of}
+use Rattle.world_laws.proofs.Cancels.{IsLater, answer-later, later-on, same-later}
 use Rattle.world_laws.proofs.Sends.{AreToNodes, IsToNode}
 use Rattle.route_laws.proofs.hand.HandMoves.{IsCallOf}
 use Rattle.route_laws.proofs.served.AllTurns.{is_among}
@@ -99,40 +96,30 @@ all-to-nodes script p (a ∷ more) asks =
 
 -- ---- the node's own call
 
-answer-ticket : (c : Caller) (call : Call) (reply : Reply) (o : Option Line)
-    → (let k : Caller = answer_at c call reply o in k.ticket) ≡ c.ticket
-answer-ticket c call reply None = refl
-answer-ticket c call reply (Some line) = by (is_due_again call reply c.tried line.tries)
+reply-here-later : (script : Script) (m : Step) (reply : Reply) (o : Option Call)
+    → IsLater m.node.caller (let t : Step = reply_here script m reply o in t.node.caller)
+reply-here-later script m reply None = same-later m.node.caller m.node.caller refl
+reply-here-later script m reply (Some call) = answer-later script m.node.number m.node.caller call reply
+
+one-later : (script : Script) (m : Step) (a : Answered)
+    → IsLater m.node.caller (let t : Step = answer_one script m a in t.node.caller)
+one-later script m a = by (nat_eq a.who.caller m.node.number)
   where
     by : (t : Bool)
-        → (let k : Caller = (if t then record (end_call c) { tried = c.tried + 1 }
-        else record (end_call c) { line = c.line + 1; tried = 0; vars = vars_after c.vars line.set reply }) in k.ticket)
-        ≡ c.ticket
-    by true = refl
-    by false = refl
+        → IsLater m.node.caller (let u : Step = (if t
+        then reply_here script m a.reply (under_way_as m.node a.who.ticket)
+        else send m a.who.caller (frames.Answer a.who.ticket a.reply)) in u.node.caller)
+    by true = reply-here-later script m a.reply (under_way_as m.node a.who.ticket)
+    by false = same-later m.node.caller m.node.caller refl
 
-reply-here-ticket : (script : Script) (m : Step) (reply : Reply) (o : Option Call)
-    → (let t : Step = reply_here script m reply o in t.node.caller.ticket) ≡ m.node.caller.ticket
-reply-here-ticket script m reply None = refl
-reply-here-ticket script m reply (Some call) =
-    answer-ticket m.node.caller call reply (slice_get (lines_of script m.node.number) m.node.caller.line)
-
-one-ticket : (script : Script) (m : Step) (a : Answered)
-    → (let t : Step = answer_one script m a in t.node.caller.ticket) ≡ m.node.caller.ticket
-one-ticket script m a = by (nat_eq a.who.caller m.node.number)
-  where
-    by : (t : Bool)
-        → (let u : Step = (if t then reply_here script m a.reply (under_way_as m.node a.who.ticket)
-        else send m a.who.caller (frames.Answer a.who.ticket a.reply)) in u.node.caller.ticket)
-        ≡ m.node.caller.ticket
-    by true = reply-here-ticket script m a.reply (under_way_as m.node a.who.ticket)
-    by false = refl
-
--- its ticket stays
-pub all-ticket : (script : Script) (m : Step) (all : List Answered)
-    → (let t : Step = answer_all script m all in t.node.caller.ticket) ≡ m.node.caller.ticket
-all-ticket script m [] = refl
-all-ticket script m (a ∷ more) = all-ticket script (answer_one script m a) more ∙ one-ticket script m a
+-- no other is started
+pub all-later : (script : Script) (m : Step) (all : List Answered)
+    → IsLater m.node.caller (let t : Step = answer_all script m all in t.node.caller)
+all-later script m [] = same-later m.node.caller m.node.caller refl
+all-later script m (a ∷ more) =
+    let one : Step = answer_one script m a
+    in let last : Step = answer_all script one more
+    in later-on m.node.caller one.node.caller last.node.caller (one-later script m a) (all-later script one more)
 
 one-caller : (script : Script) (m : Step) (a : Answered) → nat_eq a.who.caller m.node.number ≡ false
     → (let t : Step = answer_one script m a in t.node.caller) ≡ m.node.caller

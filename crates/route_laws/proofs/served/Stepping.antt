@@ -1,5 +1,5 @@
 -- What the step of a served call changes: the call has its reply, and those whom it wakes have theirs; or it parks.
-use Rattle.std.proofs.Common.{◌≡◌, ◌≢◌, ℕ, Bool, false, ◌||◌, List, [], ◌∷◌, ◌++◌, Option, Some, None, refl, ap, sym, ◌∙◌, append-nil}
+use Rattle.std.proofs.Common.{◌≡◌, ◌≢◌, ℕ, Bool, false, ◌||◌, List, [], ◌∷◌, ◌++◌, Option, Some, None, refl, ap, sym, subst, ◌∙◌, append-nil}
 use Rattle.std.specs.List.{AllByRecursion}
 use Rattle.std.proofs.lemmas.Bool.{ne_eqb}
 use Rattle.pico_base.specs.declared.numbers.Name.{Name}
@@ -25,6 +25,7 @@ use Rattle.world_laws.specs.Sights.{is_born_in, node_of}
 use Rattle.world_laws.specs.Families.{NodeHolds}
 use Rattle.world_laws.specs.Cancels.{Owing}
 use Rattle.world_laws.specs.Invariant.{HoldsOwing}
+use Rattle.world_laws.proofs.Cancels.{IsLater, same-later}
 use Rattle.world_laws.proofs.Changes.{Changes, read-same}
 use Rattle.world_laws.proofs.Middles.{changes-further}
 use Rattle.route_laws.proofs.hand.HandMoves.{IsCallOf}
@@ -32,7 +33,7 @@ use Rattle.route_laws.proofs.served.AllTurns.{IsWoken, is_among}
 use Rattle.route_laws.proofs.served.Cancelled.{IsStepOf}
 use Rattle.route_laws.proofs.served.Replies.{IsAtWork}
 use Rattle.route_laws.proofs.served.Rounds.{Answered, answered}
-use Rattle.route_laws.proofs.served.Sent.{all-caller, all-sends, all-ticket, all-to-nodes, sends-no-cancel, sends-of-no-other, turn_sends}
+use Rattle.route_laws.proofs.served.Sent.{all-caller, all-sends, all-later, all-to-nodes, sends-no-cancel, sends-of-no-other, turn_sends}
 use Rattle.route_laws.proofs.served.Steps.{StaysStep, all-stay, answer_all, with_tables}
 use Rattle.route_laws.proofs.served.Turns.{node-at}
 use Rattle.route_laws.proofs.served.Woken.{asked_from}
@@ -144,7 +145,8 @@ module _ (script : Script) (v : World) (p : ℕ) (s : Step) (asked : Asked) (res
             no_cancel = λ y. sends-no-cancel p y all;
             number = stays.number ∙ ap (λ (n : Node). n.number) (sym there);
             pid = stays.pid ∙ ap (λ (n : Node). n.pid) (sym there);
-            ticket = all-ticket script entered_step all ∙ ap (λ (n : Node). n.caller.ticket) (sym there);
+            later = subst (λ (n : Node). IsLater n.caller answered_step.node.caller) (sym there)
+                (all-later script entered_step all);
             same_caller = λ parks among. record {
               number = stays.number ∙ ap (λ (n : Node). n.number) (sym there);
               pid = stays.pid ∙ ap (λ (n : Node). n.pid) (sym there);
@@ -188,7 +190,8 @@ module _ (script : Script) (v : World) (p : ℕ) (s : Step) (asked : Asked) (res
           no_cancel = λ y. tt;
           number = ap (λ (n : Node). n.number) (sym there);
           pid = ap (λ (n : Node). n.pid) (sym there);
-          ticket = ap (λ (n : Node). n.caller.ticket) (sym there);
+          later = subst (λ (n : Node). IsLater n.caller s.node.caller) (sym there)
+              (same-later s.node.caller s.node.caller refl);
           same_caller = λ parks among. record {
             number = ap (λ (n : Node). n.number) (sym there);
             pid = ap (λ (n : Node). n.pid) (sym there);

@@ -30,7 +30,7 @@ use Rattle.world_laws.specs.Sights.{node_of, directory_of, is_born_in, is_born_s
 use Rattle.world_laws.specs.Callers.{call_sight, is_item_about}
 use Rattle.world_laws.specs.Cancels.{CancelIf, CancelSight, Owing, Wakes, cancel_sight, is_held_cancel_of, owing_of}
 use Rattle.world_laws.specs.Wholes.{HasWhole}
-use Rattle.world_laws.proofs.Cancels.{SameCancel, cancel-left-alone, is_item_of}
+use Rattle.world_laws.proofs.Cancels.{IsLater, SameCancel, cancel-left-alone, is_item_of}
 use Rattle.world_laws.proofs.Following.{SameOld}
 use Rattle.world_laws.proofs.LeftAlone.{SameCaller}
 use Rattle.rule_laws.proofs.Withdrawals.{old-still}
@@ -299,8 +299,8 @@ module _ (script : Script) (v : World) (p : ℕ) (s : Step) (asked : Asked) (res
         (λ m. ap (λ d. filter (is_held_cancel_of asked.caller) (held_for d m)) same-directory-now)
         in old-still script p u w' one_node before.takes sends (entry ∷ []) changes-since before.hand rest beside-before
         one_beside asked.caller (ap (λ (m : Node). m.pid) (sym (before.nodes asked.caller)) ∙ here.of.pid)
-        (subst (λ (m : Node). m.caller.ticket ≤ (node_of w' asked.caller).caller.ticket) (before.nodes asked.caller)
-        here.of.ticket)
+        (subst (λ (m : Node). IsLater m.caller (node_of w' asked.caller).caller) (before.nodes asked.caller)
+        here.of.later)
         (λ m. ap (λ d. filter (is_held_cancel_of asked.caller) (held_for d m)) directory-since)
         (before.cancel_items asked.caller) (before.no_cancel asked.caller)
         (no-cancel-sends own asked reply asked.caller)

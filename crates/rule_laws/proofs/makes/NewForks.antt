@@ -51,7 +51,7 @@ use Rattle.world_laws.specs.Callers.{CallHolds, CallSight, FreeIn, HasCallOrNone
 use Rattle.world_laws.specs.Cancels.{CancelHolds, Nothing, cancel_sight, is_held_cancel_of}
 use Rattle.world_laws.specs.Wholes.{under_way_at}
 use Rattle.waiting_model.specs.Calls.{may_park, waits_at}
-use Rattle.world_laws.proofs.Cancels.{cancel-left-alone, is_item_of}
+use Rattle.world_laws.proofs.Cancels.{cancel-left-alone, is_item_of, same-later}
 use Rattle.world_laws.proofs.Replied.{cancel-over}
 use Rattle.rule_laws.proofs.Nowhere.{nowhere-unused, still-unknown}
 use Rattle.rule_laws.proofs.Withdrawals.{idle-uncancelled, old-still}
@@ -925,8 +925,8 @@ module _ (script : Script) (sound : IsSoundScript script) (w : World) (b : Besid
       in cancel-over block Nothing Nothing (cancel_sight w [] b block) (cancel_sight next [] moved block)
       (old-still script p w next after-node (takes_by kind o) sends entries changes [] [] b moved block
       (sym (ap (λ (m : Node). m.pid) node))
-      (let same : (node_of next block).caller.ticket ≡ (node_of w block).caller.ticket =
-      ap (λ (m : Node). m.caller.ticket) node in omega (arith, same))
+      (same-later (let m : Node = node_of w block in m.caller) (let m : Node = node_of next block in m.caller)
+      (ap (λ (m : Node). m.caller) (sym node)))
       (λ m. ap (filter (is_held_cancel_of block)) (is-after.held m)) refl (taken-no-cancel kind o block)
       (of-sends _ refl (λ other. refl)))
       (idle-uncancelled block Nothing (cancel_sight w [] b block) was

@@ -34,6 +34,7 @@ use Rattle.world_laws.specs.Cancels.{CancelHolds, Nothing, cancel_sight, is_canc
 use Rattle.world_laws.specs.Invariant.{Holds}
 use Rattle.world_laws.specs.Names.{name_sight}
 use Rattle.world_laws.specs.Ranges.{KeysHold, KindSight, kind_sight, lease_at, lease_in}
+use Rattle.world_laws.proofs.Cancels.{over-later}
 use Rattle.world_laws.proofs.Changes.{Changes, filter-is-list-map, only-stayed, read-same}
 use Rattle.world_laws.proofs.Lines.{IsAnswered}
 use Rattle.world_laws.proofs.Replied.{cancel-over}
@@ -210,10 +211,13 @@ module _ (script : Script) (w : World) (b : Beside) (holds : Holds script w [] b
         ap (λ (m : Node). m.caller) c.here ∙ caller
         in let ticket : (node_of next p).caller.ticket ≡ s.caller.ticket =
         ap (λ (m : Caller). m.ticket) now ∙ is-over.ticket_is
+        in let free : (node_of next p).caller.under_way ≡ None =
+        ap (λ (m : Caller). m.under_way) now ∙ is-over.free
         in let older = s.older
         in cancel-over p Nothing Nothing (cancel_sight w [] b p) (cancel_sight next [] (made b') p)
         (old-still script p w next n (takes_by kind o) sends entries c [] [] b (made b') p
-        (sym (ap (λ (m : Node). m.pid) c.here ∙ process)) (omega (arith, ticket, older))
-        (λ m. ap (filter (is_held_cancel_of p)) (a.held m)) refl (taken-no-cancel kind o p) none)
-        (cancel ∙ s.uncancelled) (inl (ap (λ (m : Caller). m.under_way) now ∙ is-over.free))
-        (λ owed. absurd (false≢true owed)) (holds.cancels p s.low s.high)
+        (sym (ap (λ (m : Node). m.pid) c.here ∙ process))
+        (over-later (let m : Node = node_of w p in m.caller) (let m : Node = node_of next p in m.caller)
+        (omega (arith, ticket, older)) free) (λ m. ap (filter (is_held_cancel_of p)) (a.held m)) refl (taken-no-cancel kind o p) none)
+        (cancel ∙ s.uncancelled) (inl free) (λ owed. absurd (false≢true owed))
+        (holds.cancels p s.low s.high)

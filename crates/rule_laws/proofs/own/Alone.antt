@@ -35,7 +35,7 @@ use Rattle.world_laws.specs.Names.{NameHolds, name_sight}
 use Rattle.world_laws.specs.Cancels.{CancelHolds, CancelIf, Nothing, Owing, cancel_sight, is_held_cancel_of}
 use Rattle.world_laws.specs.Invariant.{Holds, HoldsOwing}
 use Rattle.world_laws.specs.Wholes.{HasMarks, HasWhole, WholeIf, under_way_at}
-use Rattle.world_laws.proofs.Cancels.{SameCancel}
+use Rattle.world_laws.proofs.Cancels.{SameCancel, next-later}
 use Rattle.world_laws.proofs.Changes.{Changes}
 use Rattle.world_laws.proofs.Replied.{cancel-over}
 use Rattle.rule_laws.proofs.Withdrawals.{old-still}
@@ -199,5 +199,6 @@ module _ (script : Script) (w : World) (b : Beside) (holds : Holds script w [] b
         ap (λ (z : Node). z.caller.ticket) c.here ∙ ticket
         in cancel-over p Nothing Nothing (cancel_sight w [] b p) (cancel_sight w' [] after_alone p)
         (old-still script p w w' m [] [] (entry ∷ []) c [] [] b after_alone p
-        (sym (ap (λ (z : Node). z.pid) c.here ∙ pid)) (omega (arith, now)) held refl tt tt)
+        (sym (ap (λ (z : Node). z.pid) c.here ∙ pid))
+        (next-later n.caller (let z : Node = node_of w' p in z.caller) (omega (arith, now))) held refl tt tt)
         (starts-uncancelled script w b holds p low high s) (inl none-now) (λ owed. absurd (false≢true owed)) h

@@ -28,6 +28,7 @@ use Rattle.world_laws.specs.Callers.{CallHolds, call_sight}
 use Rattle.world_laws.specs.Cancels.{CancelHolds, Nothing, cancel_sight, is_cancel_of, is_doomed, is_held_cancel_of}
 use Rattle.world_laws.specs.Invariant.{Holds}
 use Rattle.world_laws.specs.Wholes.{HasMarks, HasWhole}
+use Rattle.world_laws.proofs.Cancels.{next-later}
 use Rattle.world_laws.proofs.Changes.{Changes}
 use Rattle.world_laws.proofs.Replied.{cancel-starts}
 use Rattle.world_laws.proofs.Wholes.{IsDueBy, LivesAlike, is_to_be_made, lives-alike, may-start}
@@ -150,7 +151,9 @@ module _ (script : Script) (w : World) (b : Beside) (holds : Holds script w [] b
         unnoted = ap (λ (k : Caller). k.noted) now;
         newer = omega (arith, ticket);
         old = old-still script p w w' m takes sends entries c [] hand' b b' p
-            (sym (ap (λ (z : Node). z.pid) c.here ∙ pid)) (omega (arith, ticket)) held at_hand none_taken none_sent;
+            (sym (ap (λ (z : Node). z.pid) c.here ∙ pid))
+            (next-later n.caller (let z : Node = node_of w' p in z.caller) (omega (arith, ticket))) held at_hand
+            none_taken none_sent;
         cancel = cancel ∙ starts-uncancelled;
         undoomed = λ none parks. ap (λ q. is_doomed (living_at b'.whole q)) pids ∙ undoomed b'.whole alike parks;
       }) (λ owed. absurd (false≢true owed)) call h
