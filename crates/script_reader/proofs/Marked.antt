@@ -7,6 +7,7 @@ use Rattle.std.proofs.lemmas.Nat.Bits.{bit_at-zero, bit_at_not, bit_at_and, bit_
 use Rattle.std.proofs.Math.Nat.{two-pow-succ}
 use Rattle.std.proofs.lemmas.Simd.{map-map, mask_l-mod, length-chunk, get_or-chunk, bit_mask_l}
 use Rattle.std.proofs.lemmas.List.{length-map, get_or-map, get_or-drop, get_or-take, length-drop, length-take}
+use Rattle.std.proofs.lemmas.List.Quantifiers.{position-Some}
 use Rattle.std.proofs.lemmas.List.Sums.{prefix_len_is}
 use Rattle.std.specs.Prelude.{position, Some}
 use Rattle.script_reader.proofs.Cuts.{position_of_first}
@@ -115,6 +116,34 @@ position_marked p xs mask at long near marks clear set =
             (clear k a b));
       },
       bit_is_set _ _ (marks at (omega (arith, long, near)) near) set,
+    ))
+
+-- and where none is set, no byte passes
+pub none_marked : (p : ℕ → Bool) (xs : List ℕ) (mask at : ℕ) → 64 ≤ length xs → 64 ≤ at → Marks p xs mask
+    → ((k : ℕ) → 0 ≤ k → k < at → bit_at mask k ≡ 0) → (k : ℕ) → k < 64 → p (get_or xs k 0) ≡ false
+none_marked p xs mask at long far marks clear k low =
+    bit_is _ _ (marks k (omega (arith, low, long)) low) (clear k (omega arith) (omega (arith, low, far)))
+
+-- the first byte that passes, where none of the first 64 does
+pub position_behind : (p : ℕ → Bool) (xs : List ℕ) (at : ℕ) → ((k : ℕ) → k < 64 → p (get_or xs k 0) ≡ false)
+    → position p (drop 64 xs) ≡ Some at → position p xs ≡ Some (64 + at)
+position_behind p xs at none here =
+    let found = position-Some p (drop 64 xs) at 0 here in
+    let before : (k : ℕ) → k < 64 + at → p (get_or xs k 0) ≡ false =
+    λ k b. elim (cases_lt k 64) [
+      | inl near ↦ none k near
+      | inr far ↦
+          let back : 64 + (k - 64) ≡ k = omega (arith, far) in
+          ap p (sym (get_or-drop 64 xs (k - 64) 0 ∙ ap (λ j. get_or xs j 0) back))
+          ∙ found.2 (k - 64) (omega (arith, far, b))
+    ] in
+    sym (position_of_first p xs (Some (64 + at)) (
+      record {
+        low = omega arith;
+        high = omega (arith, found.0, length-drop 64 xs);
+        before = λ k a b. unset_not _ (before k b);
+      },
+      ap p (sym (get_or-drop 64 xs at 0)) ∙ found.1,
     ))
 
 flipped : (b : Bool) (n : ℕ) → n ≡ cond b 1 0 → 1 - n ≡ cond (not b) 1 0

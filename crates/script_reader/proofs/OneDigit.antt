@@ -1,8 +1,8 @@
--- Operations whose numbers have one digit.
+-- Operations whose amount has one digit, and whose index has one or two.
 use Rattle.std.proofs.Common.{◌≡◌, ℕ, zero, suc, ◌+◌, ◌-◌, ◌<◌, ◌≤◌, ℤ, pos, negsuc, to_z, of_z, w32, Bool, true, false, cond, eqb, leb, List, [], ◌∷◌, length, get_or, take, drop, Option, Some, None, refl, sym, ap, ◌∙◌, subst, subst₂, inl, inr, arith}
 use Rattle.std.proofs.lemmas.List.{take_rest}
 use Rattle.std.proofs.lemmas.Bool.{cases_eq, and_parts, leb-true, eqb-true}
-use Rattle.std.specs.Prelude.{codes, bytes_eq, position, option_map}
+use Rattle.std.specs.Prelude.{codes, bytes_eq, position, option_map, ◌&&◌}
 use lib.IntN.{◌-ℤ◌}
 use Rattle.pico_base.specs.Options.{◌>>=◌}
 use Rattle.quoted_bytes.specs.Front.{strip}
@@ -194,3 +194,46 @@ step_of_five (i ∷ c ∷ s ∷ d ∷ e ∷ rest) long index colon sign low high
     let here = step_by i (45 ∷ d ∷ 58 ∷ rest) (negsuc (d - 49)) true first.0 first.1
     (added_below d rest low high ∙ ap (with_nowait d) whole) in
     rw (colon, sign, behind) here
+
+-- ---- an index of two digits
+
+-- the test of the code, for its two digits
+abbrev pub are_two : ℕ → ℕ → Bool
+are_two t o = (leb 49 t && leb t 57) && is_digit o
+
+two_range : (t o : ℕ) → are_two t o ≡ true → (t ≤ 57) × (o ≤ 57)
+two_range t o e =
+    let both = and_parts (leb 49 t && leb t 57) (is_digit o) e in
+    (leb-true t 57 (and_parts (leb 49 t) (leb t 57) both.0).1, (digit_range o both.1).1)
+
+behind_two : (t o : ℕ) (rest : List ℕ) → t ≤ 57 → o ≤ 57 → (k : ℕ) → k < 2
+    → ¬ (eqb (get_or (t ∷ o ∷ 58 ∷ rest) k 0) 58 ≡ true)
+behind_two t o rest high last zero low e = omega (arith, eqb-true t 58 e, high)
+behind_two t o rest high last (suc k) low e = second o rest last k (omega (arith, low)) e
+
+cut_two : (t o : ℕ) (rest : List ℕ) → are_two t o ≡ true → cut 58 (t ∷ o ∷ 58 ∷ rest) ≡ Some (t ∷ o ∷ [], rest)
+unfolding cut
+cut_two t o rest two =
+    let w : List ℕ = t ∷ o ∷ 58 ∷ rest in
+    let range = two_range t o two in
+    ap (option_map (λ k. (take k w, drop (k + 1) w)))
+    (colon_at w 2 (omega arith) (behind_two t o rest range.0 range.1) refl)
+
+indexed_by_two : (t o n : ℕ) (rest : List ℕ) → are_two t o ≡ true → number 65535 (t ∷ o ∷ []) ≡ Some n
+    → indexed (t ∷ o ∷ 58 ∷ rest) ≡ Some (n, rest)
+unfolding indexed
+indexed_by_two t o n rest two e =
+    ap (λ (o : Option (List ℕ × List ℕ)). o >>= λ parts. number 65535 parts.0 >>= λ n. Some (n, parts.1))
+    (cut_two t o rest two)
+    ∙ ap (λ (o : Option ℕ). o >>= λ n. Some (n, rest)) e
+
+-- an index of two digits, its colon, and what follows
+pub indexed_in_two : (w : List ℕ) (n : ℕ) → 3 ≤ length w → are_two (get_or w 0 0) (get_or w 1 0) ≡ true
+    → get_or w 2 0 ≡ 58 → number 65535 (get_or w 0 0 ∷ get_or w 1 0 ∷ []) ≡ Some n
+    → Some (n, take (length w - 3) (drop 3 w)) ≡ indexed w
+indexed_in_two [] n long two colon e = absurd (omega (arith, long))
+indexed_in_two (t ∷ []) n long two colon e = absurd (omega (arith, long))
+indexed_in_two (t ∷ o ∷ []) n long two colon e = absurd (omega (arith, long))
+indexed_in_two (t ∷ o ∷ c ∷ rest) n long two colon e =
+    ap (λ (r : List ℕ). Some (n, r)) (take_rest (t ∷ o ∷ c ∷ rest) 3)
+    ∙ sym (subst (λ c. indexed (t ∷ o ∷ c ∷ rest) ≡ Some (n, rest)) (sym colon) (indexed_by_two t o n rest two e))

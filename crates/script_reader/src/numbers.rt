@@ -1,6 +1,6 @@
 //! Words that are numbers.
 
-ghost use Rattle.std.specs.Prelude.{◌≡◌, ◌≤◌, ◌<◌, IfSome};
+ghost use Rattle.std.specs.Prelude.{◌≡◌, ◌≤◌, ◌<◌, IfSome, [], ◌∷◌};
 ghost use Rattle.script_reader.specs.Parts.{digits as digits_of, number as number_of, positive as positive_of, signed as signed_of};
 
 use quoted_bytes::strip_front;
@@ -9,6 +9,7 @@ use quoted_bytes::strip_front;
 pub(crate) const MAX_NUMBER: u32 = 65_535;
 
 /// The value of these digits, up to the limit.
+#[inline(never)]
 #[tactic(auto, unfolding(crate::specs::Parts::digits))]
 fn digits(limit: u32, word: &[u8]) -> Option<u32>
     ensures value { result ≡ digits_of limit 0 word.now }
@@ -27,15 +28,39 @@ fn digits(limit: u32, word: &[u8]) -> Option<u32>
     Some(value as u32)
 }
 
-/// A number up to the limit, without leading zeros.
-#[tactic(auto, unfolding(crate::specs::Parts::number))]
+/// The value of one digit behind digits of this value, up to the limit.
+#[inline(always)]
+#[tactic(auto, unfolding(crate::specs::Parts::digits))]
+fn with_digit(limit: u32, value: u32, digit: u8) -> Option<u32>
+    ensures value { result ≡ digits_of limit value (digit ∷ []) }
+    ensures small { IfSome result (λ n. n ≤ limit) }
+{
+    if !digit.is_ascii_digit() {
+        return None;
+    }
+    let more = u64::from(value) * 10 + u64::from(digit - b'0');
+    if more > u64::from(limit) {
+        None
+    } else {
+        Some(more as u32)
+    }
+}
+
+/// A number up to the limit, without leading zeros. Most have one or two digits.
+#[inline(always)]
+#[tactic(auto, unfolding(crate::specs::Parts::number, crate::specs::Parts::digits))]
 pub(crate) fn number(limit: u32, word: &[u8]) -> Option<u32>
     ensures value { result ≡ number_of limit word.now }
     ensures small { IfSome result (λ n. n ≤ limit) }
 {
     match word {
         [] => None,
+        [digit] => with_digit(limit, 0, *digit),
         [b'0', _, ..] => None,
+        [tens, ones] => {
+            let value = with_digit(limit, 0, *tens)?;
+            with_digit(limit, value, *ones)
+        }
         _ => digits(limit, word),
     }
 }
@@ -61,6 +86,7 @@ pub(crate) fn index(word: &[u8]) -> Option<u16>
 }
 
 /// A number from the limit below zero to the limit.
+#[inline(always)]
 #[tactic(auto, unfolding(crate::specs::Parts::signed))]
 pub(crate) fn signed(limit: u32, word: &[u8]) -> Option<i32>
     requires { limit ≤ 2147483647 }

@@ -80,6 +80,7 @@ pub fn is_block_name(word: &[u8]) -> bool
 }
 
 /// Whether a word is `nowait`. Many lines end in it, so its bytes are told one by one, without a call.
+#[inline(always)]
 pub(crate) fn is_nowait(word: &[u8]) -> bool
     ensures { result ≡ bytes_eq word.now (codes "nowait") }
 {

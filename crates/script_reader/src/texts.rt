@@ -1,10 +1,10 @@
 //! Words that are texts of messages, operations and values.
 
-ghost use Rattle.std.specs.Prelude.{◌≡◌, ℕ, ◌<◌, ◌≤◌, ◌+◌, true, slice_index, IfOk, IfSome, option_map, length};
+ghost use Rattle.std.specs.Prelude.{◌≡◌, ℕ, ◌<◌, ◌≤◌, ◌+◌, ◌&&◌, nat_le, true, Some, [], ◌∷◌, slice_index, IfOk, IfSome, option_map, length};
 ghost use Rattle.std.specs.List.{list_all};
 ghost use Rattle.script_reader.specs.Words.{texts};
 ghost use Rattle.kernel_model.specs.Texts.{is_plain as is_plain_of};
-ghost use Rattle.script_reader.specs.Parts.{is_alphanumeric as is_alphanumeric_of, closed_at, quoted_at, letter as letter_of, counted as counted_of, repetition as repetition_of, text as text_of, added as added_of, indexed as indexed_of, step as step_of, each, number as number_of, values as values_of};
+ghost use Rattle.script_reader.specs.Parts.{is_digit, is_alphanumeric as is_alphanumeric_of, closed_at, quoted_at, letter as letter_of, counted as counted_of, repetition as repetition_of, text as text_of, added as added_of, indexed as indexed_of, step as step_of, each, number as number_of, values as values_of};
 
 use crate::numbers::{MAX_NUMBER, index, number, signed};
 use crate::parts::{cut, is_nowait};
@@ -155,6 +155,22 @@ pub(crate) fn text(alloc: Global, word: &[u8]) -> Result<Option<Bytes>, Memory>
     }
 }
 
+/// Whether these are the digits of a number from 10 to 99.
+fn are_two_digits(tens: u8, ones: u8) -> bool
+    ensures { result ≡ ((nat_le 49 tens && nat_le tens 57) && is_digit ones) }
+{
+    (b'1' <= tens && tens <= b'9') && ones.is_ascii_digit()
+}
+
+/// The number of two digits.
+#[tactic(auto, unfolding(crate::specs::Parts::number, crate::specs::Parts::digits))]
+fn two_digits(tens: u8, ones: u8) -> u16
+    requires { ((nat_le 49 tens && nat_le tens 57) && is_digit ones) ≡ true }
+    ensures { number_of 65535 (tens ∷ ones ∷ []) ≡ Some result }
+{
+    10 * u16::from(tens - b'0') + u16::from(ones - b'0')
+}
+
 /// What an operation adds, and whether `:nowait` follows.
 #[inline(never)]
 #[tactic(auto, unfolding(crate::specs::Parts::added))]
@@ -206,7 +222,7 @@ fn any_indexed(word: &[u8]) -> Option<(u16, &[u8])>
     Some((num, rest))
 }
 
-/// What `any_indexed` gives. Most indices have one digit, and are told without a search.
+/// What `any_indexed` gives. Most indices have one or two digits, and are told without a search.
 fn indexed(word: &[u8]) -> Option<(u16, &[u8])>
     ensures { option_map (λ x. (x.0, x.1.now)) result ≡ indexed_of word.now }
 {
@@ -214,12 +230,15 @@ fn indexed(word: &[u8]) -> Option<(u16, &[u8])>
         [digit, colon, rest @ ..] if digit.is_ascii_digit() && *colon == b':' => {
             Some((u16::from(*digit - b'0'), rest))
         }
+        [tens, ones, colon, rest @ ..] if are_two_digits(*tens, *ones) && *colon == b':' => {
+            Some((two_digits(*tens, *ones), rest))
+        }
         _ => any_indexed(word),
     }
 }
 
 /// An operation, `I:V` or `I:V:nowait`.
-#[inline(never)]
+#[inline(always)]
 #[tactic(auto, unfolding(crate::specs::Parts::step, crate::specs::Parts::indexed))]
 fn any_step(word: &[u8]) -> Option<SemStep>
     ensures { result ≡ step_of word.now }

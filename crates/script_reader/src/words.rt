@@ -1,6 +1,6 @@
 //! Lines and words.
 
-ghost use Rattle.std.specs.Prelude.{◌≡◌, ℕ, Some, None, ◌<◌, ◌≤◌, ◌+◌, ◌-◌, ◌==◌, not, drop, take, slice_index, position, [], ◌∷◌, IfOk, OnOk, IfSome, MatchOption, length};
+ghost use Rattle.std.specs.Prelude.{◌≡◌, ℕ, Some, None, false, ◌<◌, ◌≤◌, ◌+◌, ◌-◌, ◌==◌, not, drop, take, slice_index, position, [], ◌∷◌, IfOk, OnOk, IfSome, MatchOption, length};
 ghost use Rattle.std.specs.Int.{bit_at};
 ghost use Rattle.std.specs.List.{position_or_len};
 ghost use Rattle.script_reader.specs.Words.{lines_of, Marks, PartWords, is_blank as is_blank_of, rest_length, words_of, pieces as pieces_of, texts};
@@ -73,9 +73,24 @@ fn near_line_end(text: &[u8]) -> Option<usize>
     requires { 64 ≤ length text.now }
     ensures value { IfSome result (λ at. position (λ b. b == 10) text.now ≡ Some at) }
     ensures near { IfSome result (λ at. at < 64) }
+    ensures far { result ≡ None → (k : ℕ) → k < 64 → (slice_index text.now k == 10) ≡ false }
 {
     let at = next_set(feeds_in(text), 0);
     if at < LANES { Some(at) } else { None }
+}
+
+/// Where the first line feed is, if it isn't among the first 64 bytes, but among the next 64.
+#[inline(always)]
+fn second_line_end(text: &[u8]) -> Option<usize>
+    requires room { 64 ≤ length text.now }
+    requires far { (k : ℕ) → k < 64 → (slice_index text.now k == 10) ≡ false }
+    ensures value { IfSome result (λ at. position (λ b. b == 10) text.now ≡ Some at) }
+{
+    if text.len() < 2 * LANES {
+        return None;
+    }
+    let at = near_line_end(&text[LANES..])?;
+    Some(LANES + at)
 }
 
 /// The mask with this bit, too.
@@ -128,6 +143,9 @@ pub(crate) fn marked_line(text: &[u8]) -> Option<(&[u8], &[u8], Option<Stops>)>
     if text.len() >= LANES {
         if let Some(at) = near_line_end(text) {
             return Some((&text[..at], &text[at + 1..], Some(stops_in(text, at))));
+        }
+        if let Some(at) = second_line_end(text) {
+            return Some((&text[..at], &text[at + 1..], None));
         }
     }
     let (line, after) = next_line(text)?;
