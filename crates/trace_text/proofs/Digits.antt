@@ -56,6 +56,11 @@ short_repeat count b least most = rw (two_digits count least most) refl
 pub two_digits_then : (n b : ℕ) → 10 ≤ n → n < 100 → decimal n ++ b ∷ [] ≡ (48 + n / 10) ∷ (48 + n % 10) ∷ b ∷ []
 two_digits_then n b least most = ap (λ digits. digits ++ b ∷ []) (two_digits n least most)
 
+-- a number of three digits with a byte behind it
+pub three_digits_then : (n b : ℕ) → 100 ≤ n → n < 1000
+    → decimal n ++ b ∷ [] ≡ (48 + n / 10 / 10) ∷ (48 + n / 10 % 10) ∷ (48 + n % 10) ∷ b ∷ []
+three_digits_then n b least most = ap (λ digits. digits ++ b ∷ []) (three_digits n least most)
+
 -- the end of a line that woke nobody, by a node of one digit
 pub short_by : (node : ℕ) → node < 10
     → codes " by " ++ decimal node ++ 10 ∷ [] ≡ 32 ∷ 98 ∷ 121 ∷ 32 ∷ (48 + node) ∷ 10 ∷ []
@@ -93,6 +98,17 @@ short_add num add small few = rw (decimal_digit num small, decimal_digit add few
 pub short_less : (num less : ℕ) → num < 10 → less < 10
     → 32 ∷ (decimal num ++ 58 ∷ 45 ∷ decimal less) ≡ 32 ∷ (48 + num) ∷ 58 ∷ 45 ∷ (48 + less) ∷ []
 short_less num less small few = rw (decimal_digit num small, decimal_digit less few) refl
+
+-- what is added to a semaphore whose number has two digits
+pub longer_add : (num add : ℕ) → 10 ≤ num → num < 100 → add < 10
+    → 32 ∷ (decimal num ++ 58 ∷ decimal add) ≡ 32 ∷ (48 + num / 10) ∷ (48 + num % 10) ∷ 58 ∷ (48 + add) ∷ []
+longer_add num add least most few = rw (two_digits num least most, decimal_digit add few) refl
+
+-- and what is taken from it
+pub longer_less : (num less : ℕ) → 10 ≤ num → num < 100 → less < 10
+    → 32 ∷ (decimal num ++ 58 ∷ 45 ∷ decimal less)
+    ≡ 32 ∷ (48 + num / 10) ∷ (48 + num % 10) ∷ 58 ∷ 45 ∷ (48 + less) ∷ []
+longer_less num less least most few = rw (two_digits num least most, decimal_digit less few) refl
 
 -- a negative number behind its sign
 pub signed_less : (z : ℤ) → z <ℤ pos 0 → signed_decimal z ≡ 45 ∷ decimal (unsigned_abs z)

@@ -1,9 +1,9 @@
 //! The fields that calls and replies share: words, numbers with a label, processes, nodes, ids and values.
-ghost use Rattle.std.specs.Prelude.{◌≡◌, [], ◌++◌, if◌then◌else◌, OnOk};
+ghost use Rattle.std.specs.Prelude.{◌≡◌, [], ◌++◌, codes, if◌then◌else◌, OnOk};
 ghost use Rattle.std.specs.Fmt.{decimal};
 ghost use Rattle.kernel_model.specs.Trace as trace;
 
-use crate::text::{push, push_byte, push_number};
+use crate::text::{has_room, push, push_byte, push_growing, push_number};
 use pico_base::{Id, Memory, Node, Pid};
 
 // A word, with the space before it, where it is wanted.
@@ -11,6 +11,20 @@ pub(crate) fn push_word(out: &mut Vec<u8>, wanted: bool, word: &[u8]) -> Result<
     ensures { OnOk result (out.new.items ≡ out.old.items ++ (if wanted then word.now else [])) }
 {
     if wanted { push(out, word) } else { Ok(()) }
+}
+
+// The word `nowait`, with the space before it, where it is wanted.
+#[inline(always)]
+pub(crate) fn push_nowait(out: &mut Vec<u8>, wanted: bool) -> Result<(), Memory>
+    ensures { OnOk result (out.new.items ≡ out.old.items ++ (if wanted then codes " nowait" else [])) }
+{
+    if !wanted {
+        return Ok(());
+    }
+    if has_room(out, 7) {
+        return push(out, &[b' ', b'n', b'o', b'w', b'a', b'i', b't']);
+    }
+    push_growing(out, b" nowait")
 }
 
 // A label and a number.

@@ -4,8 +4,8 @@ ghost use Rattle.std.specs.List.{filter, list_any};
 ghost use Rattle.pico_base.specs.Signal.{at, all_signals};
 ghost use Rattle.kernel_model.specs.Trace as trace;
 
-use crate::text::{push, push_byte};
-use pico_base::{Act, Errno, How, Memory, SIGNALS, Sig, SigArg, SigSet};
+use crate::text::{push, push_byte, push_known};
+use pico_base::{Act, Errno, Memory, SIGNALS, Sig, SigArg, SigSet};
 
 // Adds a signal's name. Here and below a name is added as a constant: bytes of a number known to the compiler are
 // stored, and others are copied by a call.
@@ -14,16 +14,16 @@ fn push_signal_name(out: &mut Vec<u8>, sig: Sig) -> Result<(), Memory>
     ensures { OnOk result (out.new.items ≡ out.old.items ++ trace.signal_name sig) }
 {
     match sig {
-        Sig::Hup => push(out, b"HUP"),
-        Sig::Int => push(out, b"INT"),
-        Sig::Quit => push(out, b"QUIT"),
-        Sig::Kill => push(out, b"KILL"),
-        Sig::Usr1 => push(out, b"USR1"),
-        Sig::Usr2 => push(out, b"USR2"),
-        Sig::Pipe => push(out, b"PIPE"),
-        Sig::Alrm => push(out, b"ALRM"),
-        Sig::Term => push(out, b"TERM"),
-        Sig::Chld => push(out, b"CHLD"),
+        Sig::Hup => push_known(out, b"HUP"),
+        Sig::Int => push_known(out, b"INT"),
+        Sig::Quit => push_known(out, b"QUIT"),
+        Sig::Kill => push_known(out, b"KILL"),
+        Sig::Usr1 => push_known(out, b"USR1"),
+        Sig::Usr2 => push_known(out, b"USR2"),
+        Sig::Pipe => push_known(out, b"PIPE"),
+        Sig::Alrm => push_known(out, b"ALRM"),
+        Sig::Term => push_known(out, b"TERM"),
+        Sig::Chld => push_known(out, b"CHLD"),
     }
 }
 
@@ -32,18 +32,18 @@ pub(crate) fn push_error_name(out: &mut Vec<u8>, errno: Errno) -> Result<(), Mem
     ensures { OnOk result (out.new.items ≡ out.old.items ++ trace.error_name errno) }
 {
     match errno {
-        Errno::Esrch => push(out, b"ESRCH"),
-        Errno::Einval => push(out, b"EINVAL"),
-        Errno::Echild => push(out, b"ECHILD"),
-        Errno::Enoent => push(out, b"ENOENT"),
-        Errno::Eexist => push(out, b"EEXIST"),
-        Errno::Enomsg => push(out, b"ENOMSG"),
-        Errno::Eagain => push(out, b"EAGAIN"),
-        Errno::E2big => push(out, b"E2BIG"),
-        Errno::Efbig => push(out, b"EFBIG"),
-        Errno::Erange => push(out, b"ERANGE"),
-        Errno::Eidrm => push(out, b"EIDRM"),
-        Errno::Eintr => push(out, b"EINTR"),
+        Errno::Esrch => push_known(out, b"ESRCH"),
+        Errno::Einval => push_known(out, b"EINVAL"),
+        Errno::Echild => push_known(out, b"ECHILD"),
+        Errno::Enoent => push_known(out, b"ENOENT"),
+        Errno::Eexist => push_known(out, b"EEXIST"),
+        Errno::Enomsg => push_known(out, b"ENOMSG"),
+        Errno::Eagain => push_known(out, b"EAGAIN"),
+        Errno::E2big => push_known(out, b"E2BIG"),
+        Errno::Efbig => push_known(out, b"EFBIG"),
+        Errno::Erange => push_known(out, b"ERANGE"),
+        Errno::Eidrm => push_known(out, b"EIDRM"),
+        Errno::Eintr => push_known(out, b"EINTR"),
     }
 }
 
@@ -54,16 +54,6 @@ pub(crate) fn push_action_name(out: &mut Vec<u8>, act: Act) -> Result<(), Memory
         Act::Dfl => push(out, b"dfl"),
         Act::Ign => push(out, b"ign"),
         Act::Catch => push(out, b"catch"),
-    }
-}
-
-pub(crate) fn push_how_name(out: &mut Vec<u8>, how: How) -> Result<(), Memory>
-    ensures { OnOk result (out.new.items ≡ out.old.items ++ trace.how_name how) }
-{
-    match how {
-        How::Block => push(out, b"block"),
-        How::Unblock => push(out, b"unblock"),
-        How::SetMask => push(out, b"setmask"),
     }
 }
 
@@ -81,7 +71,7 @@ pub(crate) fn push_signal_argument(out: &mut Vec<u8>, sig: SigArg) -> Result<(),
 pub(crate) fn push_signal_call(out: &mut Vec<u8>, name: &[u8], sig: Sig) -> Result<(), Memory>
     ensures { OnOk result (out.new.items ≡ out.old.items ++ name.now ++ trace.signal_name sig) }
 {
-    push(out, name)?;
+    push_known(out, name)?;
     push_signal_name(out, sig)
 }
 
@@ -137,5 +127,5 @@ pub fn push_set(out: &mut Vec<u8>, set: SigSet) -> Result<(), Memory>
     if push_members(out, set)? {
         return Ok(());
     }
-    push(out, b"none")
+    push_known(out, b"none")
 }

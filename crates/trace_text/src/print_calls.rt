@@ -5,14 +5,12 @@ ghost use Rattle.kernel_model.specs.Fitting.{block_at};
 ghost use Rattle.kernel_model.specs.Trace as trace;
 
 use crate::fields::{push_labelled, push_pid, push_word};
-use crate::names::{
-    push_action_name, push_how_name, push_set, push_signal_argument, push_signal_call,
-};
+use crate::names::{push_action_name, push_set, push_signal_argument, push_signal_call};
 use crate::print_queues::{push_msgctl, push_msgget, push_msgrcv, push_msgset, push_msgsnd};
 use crate::print_semaphores::{
     push_semctl, push_semctl_at, push_semget, push_semop, push_setall, push_setval,
 };
-use crate::text::{push, push_byte, push_number, push_number_then};
+use crate::text::{push, push_byte, push_known, push_number, push_number_then};
 use pico_base::{Act, Call, How, Memory, Name, Node, Pid, Script, SigArg, SigSet};
 
 #[inline(never)]
@@ -47,7 +45,7 @@ fn push_kill(out: &mut Vec<u8>, pid: Pid, sig: SigArg) -> Result<(), Memory>
     ensures { OnOk result
         (out.new.items ≡ out.old.items ++ codes "kill " ++ decimal pid ++ 32 ∷ trace.signal_argument sig) }
 {
-    push(out, b"kill ")?;
+    push_known(out, b"kill ")?;
     push_number_then(out, u64::from(pid.0), b' ')?;
     push_signal_argument(out, sig)
 }
@@ -70,9 +68,9 @@ fn push_waitpid_any(out: &mut Vec<u8>, nohang: bool) -> Result<(), Memory>
         (out.new.items ≡ out.old.items ++ (codes "waitpid any" ++ trace.word nohang (codes "nohang"))) }
 {
     if nohang {
-        return push(out, b"waitpid any nohang");
+        return push_known(out, b"waitpid any nohang");
     }
-    push(out, b"waitpid any")
+    push_known(out, b"waitpid any")
 }
 
 #[inline(never)]
@@ -81,9 +79,18 @@ fn push_waitpid(out: &mut Vec<u8>, child: Option<Pid>, nohang: bool) -> Result<(
         (out.new.items ≡ out.old.items ++ codes "waitpid " ++ trace.child_text child
         ++ trace.word nohang (codes "nohang")) }
 {
-    let Some(pid) = child else {
-        return push_waitpid_any(out, nohang);
-    };
+    match child {
+        None => push_waitpid_any(out, nohang),
+        Some(pid) => push_waitpid_one(out, pid, nohang),
+    }
+}
+
+// A wait for one child.
+#[inline(never)]
+fn push_waitpid_one(out: &mut Vec<u8>, pid: Pid, nohang: bool) -> Result<(), Memory>
+    ensures { OnOk result
+        (out.new.items ≡ out.old.items ++ (codes "waitpid " ++ decimal pid ++ trace.word nohang (codes "nohang"))) }
+{
     push(out, b"waitpid ")?;
     push_pid(out, pid)?;
     push_word(out, nohang, b" nohang")
@@ -92,9 +99,11 @@ fn push_waitpid(out: &mut Vec<u8>, child: Option<Pid>, nohang: bool) -> Result<(
 fn push_how(out: &mut Vec<u8>, how: How) -> Result<(), Memory>
     ensures { OnOk result (out.new.items ≡ out.old.items ++ trace.how_words how) }
 {
-    push(out, b"sigprocmask ")?;
-    push_how_name(out, how)?;
-    push_byte(out, b' ')
+    match how {
+        How::Block => push_known(out, b"sigprocmask block "),
+        How::Unblock => push_known(out, b"sigprocmask unblock "),
+        How::SetMask => push_known(out, b"sigprocmask setmask "),
+    }
 }
 
 #[inline(never)]
@@ -116,6 +125,20 @@ fn push_withdrawal(out: &mut Vec<u8>, name: &Name) -> Result<(), Memory>
     }
 }
 
+#[inline(never)]
+fn push_getpid(out: &mut Vec<u8>) -> Result<(), Memory>
+    ensures { OnOk result (out.new.items ≡ out.old.items ++ codes "getpid") }
+{
+    push_known(out, b"getpid")
+}
+
+#[inline(never)]
+fn push_sigpending(out: &mut Vec<u8>) -> Result<(), Memory>
+    ensures { OnOk result (out.new.items ≡ out.old.items ++ codes "sigpending") }
+{
+    push_known(out, b"sigpending")
+}
+
 /// Adds a call as a script would have it, with actual numbers; no script has a withdrawal.
 pub fn push_call(out: &mut Vec<u8>, script: &Script, call: &Call) -> Result<(), Memory>
     ensures { OnOk result (out.new.items ≡ out.old.items ++ trace.call_text script.now call.now) }
@@ -125,11 +148,11 @@ pub fn push_call(out: &mut Vec<u8>, script: &Script, call: &Call) -> Result<(), 
         Call::Fork { block } => push_fork(out, script, *block),
         Call::Exit { status } => push_exit(out, *status),
         Call::Killed { sig } => push_signal_call(out, b"killed ", *sig),
-        Call::GetPid => push(out, b"getpid"),
+        Call::GetPid => push_getpid(out),
         Call::Kill { pid, sig } => push_kill(out, *pid, *sig),
         Call::SigAction { sig, act } => push_sigaction(out, *sig, *act),
         Call::SigProcMask { how, set } => push_sigprocmask(out, *how, *set),
-        Call::SigPending => push(out, b"sigpending"),
+        Call::SigPending => push_sigpending(out),
         Call::Handled { sig } => push_signal_call(out, b"handled ", *sig),
         Call::WaitPid { child, nohang } => push_waitpid(out, *child, *nohang),
         Call::MsgGet { key, create, excl } => push_msgget(out, *key, *create, *excl),

@@ -9,7 +9,7 @@ ghost use Rattle.trace_text.specs.Outcome.{outcome_text};
 use crate::fields::push_node;
 use crate::print_calls::push_call;
 use crate::print_replies::push_reply;
-use crate::text::{push, push_byte, push_number_then};
+use crate::text::{has_room, push, push_byte, push_growing, push_number_then};
 use pico_base::{Call, Entry, Memory, Node, Outcome, Pid, Reply, Script};
 
 fn push_own(out: &mut Vec<u8>, own: &Option<Reply>) -> Result<(), Memory>
@@ -78,12 +78,20 @@ fn push_longer_by(out: &mut Vec<u8>, node: u8) -> Result<(), Memory>
 fn push_by_alone(out: &mut Vec<u8>, node: Node) -> Result<(), Memory>
     ensures { OnOk result (out.new.items ≡ out.old.items ++ trace.by_text node []) }
 {
-    if node.0 < 10 {
-        return push_short_by(out, node.0);
-    }
-    if node.0 < 100 {
+    if node.0 < 100 && has_room(out, 7) {
+        if node.0 < 10 {
+            return push_short_by(out, node.0);
+        }
         return push_longer_by(out, node.0);
     }
+    push_any_by(out, node)
+}
+
+// The same by any node.
+#[inline(never)]
+fn push_any_by(out: &mut Vec<u8>, node: Node) -> Result<(), Memory>
+    ensures { OnOk result (out.new.items ≡ out.old.items ++ trace.by_text node []) }
+{
     push(out, b" by ")?;
     push_number_then(out, u64::from(node.0), b'\n')
 }
@@ -183,6 +191,17 @@ fn push_digit_end(out: &mut Vec<u8>, number: u8, node: Node) -> Result<(), Memor
     push_number_then(out, u64::from(node.0), b'\n')
 }
 
+// What stands in front of what a call came to.
+#[inline(always)]
+fn push_equals(out: &mut Vec<u8>) -> Result<(), Memory>
+    ensures { OnOk result (out.new.items ≡ out.old.items ++ codes " = ") }
+{
+    if has_room(out, 3) {
+        return push(out, &[b' ', b'=', b' ']);
+    }
+    push_growing(out, b" = ")
+}
+
 // The end of any line.
 #[inline(always)]
 fn push_long_end(out: &mut Vec<u8>, outcome: &Outcome, node: Node) -> Result<(), Memory>
@@ -190,7 +209,7 @@ fn push_long_end(out: &mut Vec<u8>, outcome: &Outcome, node: Node) -> Result<(),
         (out.new.items ≡ out.old.items
         ++ (codes " = " ++ trace.own_text outcome.now.own ++ trace.by_text node outcome.now.woken)) }
 {
-    push(out, b" = ")?;
+    push_equals(out)?;
     push_own(out, &outcome.own)?;
     push_by(out, node, outcome.woken.as_slice())
 }
@@ -201,7 +220,7 @@ fn push_end(out: &mut Vec<u8>, outcome: &Outcome, node: Node) -> Result<(), Memo
         (out.new.items ≡ out.old.items
         ++ (codes " = " ++ trace.own_text outcome.now.own ++ trace.by_text node outcome.now.woken)) }
 {
-    if outcome.woken.as_slice().is_empty() {
+    if outcome.woken.as_slice().is_empty() && node.0 < 100 && has_room(out, 11) {
         if let Some(number) = digit_of(&outcome.own) {
             return push_digit_end(out, number, node);
         }

@@ -1,11 +1,12 @@
 //! The text of a call on a message queue.
 ghost use Rattle.std.specs.Prelude.{◌≡◌, ◌<◌, [], ◌∷◌, ◌++◌, codes, OnOk};
-ghost use Rattle.std.specs.Fmt.{decimal};
+ghost use Rattle.std.specs.Fmt.{decimal, signed_decimal};
 ghost use Rattle.kernel_model.specs.Trace as trace;
 
-use crate::fields::{push_create_words, push_id, push_labelled, push_word};
+use crate::fields::{push_create_words, push_id, push_labelled, push_nowait, push_word};
 use crate::text::{
-    digit_of, push, push_message, push_number, push_number_then, push_signed_and_space,
+    digit_of, has_room, push, push_growing, push_message, push_number, push_number_then,
+    push_signed_and_space,
 };
 use pico_base::{Id, Key, Memory};
 
@@ -59,32 +60,58 @@ fn push_msgsnd_words(out: &mut Vec<u8>, id: Id, class: i32) -> Result<(), Memory
     ensures { OnOk result (out.new.items ≡ out.old.items ++ trace.queue_words (codes "msgsnd ") id class) }
 {
     if let Some(class) = digit_of(class) {
-        if id.0 < 10 {
+        if id.0 < 10 && has_room(out, 11) {
             return push_short_msgsnd(out, id.0 as u8, class);
         }
     }
-    push_queue_words(out, b"msgsnd ", id, class)
+    push_long_msgsnd_words(out, id, class)
 }
 
 fn push_msgrcv_words(out: &mut Vec<u8>, id: Id, class: i32) -> Result<(), Memory>
     ensures { OnOk result (out.new.items ≡ out.old.items ++ trace.queue_words (codes "msgrcv ") id class) }
 {
     if let Some(class) = digit_of(class) {
-        if id.0 < 10 {
+        if id.0 < 10 && has_room(out, 11) {
             return push_short_msgrcv(out, id.0 as u8, class);
         }
     }
-    push_queue_words(out, b"msgrcv ", id, class)
+    push_long_msgrcv_words(out, id, class)
 }
 
-// A call's name, the queue and the type of message.
-#[inline(never)]
-fn push_queue_words(out: &mut Vec<u8>, name: &[u8], id: Id, class: i32) -> Result<(), Memory>
-    ensures { OnOk result (out.new.items ≡ out.old.items ++ trace.queue_words name.now id class) }
+// The queue and the type of message.
+#[inline(always)]
+fn push_queue_numbers(out: &mut Vec<u8>, id: Id, class: i32) -> Result<(), Memory>
+    ensures { OnOk result
+        (out.new.items ≡ out.old.items ++ (decimal id ++ 32 ∷ (signed_decimal class ++ 32 ∷ []))) }
 {
-    push(out, name)?;
     push_number_then(out, u64::from(id.0), b' ')?;
     push_signed_and_space(out, class)
+}
+
+// The first words of any send.
+#[inline(never)]
+fn push_long_msgsnd_words(out: &mut Vec<u8>, id: Id, class: i32) -> Result<(), Memory>
+    ensures { OnOk result (out.new.items ≡ out.old.items ++ trace.queue_words (codes "msgsnd ") id class) }
+{
+    if has_room(out, 7) {
+        push(out, &[b'm', b's', b'g', b's', b'n', b'd', b' '])?;
+    } else {
+        push_growing(out, b"msgsnd ")?;
+    }
+    push_queue_numbers(out, id, class)
+}
+
+// The first words of any receive.
+#[inline(never)]
+fn push_long_msgrcv_words(out: &mut Vec<u8>, id: Id, class: i32) -> Result<(), Memory>
+    ensures { OnOk result (out.new.items ≡ out.old.items ++ trace.queue_words (codes "msgrcv ") id class) }
+{
+    if has_room(out, 7) {
+        push(out, &[b'm', b's', b'g', b'r', b'c', b'v', b' '])?;
+    } else {
+        push_growing(out, b"msgrcv ")?;
+    }
+    push_queue_numbers(out, id, class)
 }
 
 #[inline(never)]
@@ -99,7 +126,7 @@ pub(crate) fn push_msgsnd(
 {
     push_msgsnd_words(out, id, class)?;
     push_message(out, text)?;
-    push_word(out, nowait, b" nowait")
+    push_nowait(out, nowait)
 }
 
 #[inline(never)]
@@ -116,7 +143,7 @@ pub(crate) fn push_msgrcv(
     push_msgrcv_words(out, id, class)?;
     push_number(out, u64::from(size))?;
     push_word(out, noerror, b" noerror")?;
-    push_word(out, nowait, b" nowait")
+    push_nowait(out, nowait)
 }
 
 #[inline(never)]

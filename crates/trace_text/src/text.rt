@@ -25,6 +25,33 @@ pub fn push_byte(out: &mut Vec<u8>, byte: u8) -> Result<(), Memory>
     Ok(())
 }
 
+// Whether there is room for so many more bytes. Where a function asks first, and leaves what needs memory to another
+// one, the compiler tests no room again, and the path that nearly all lines take saves no registers.
+#[inline(always)]
+pub(crate) fn has_room(out: &Vec<u8>, more: usize) -> bool {
+    more <= out.capacity() - out.len()
+}
+
+// Adds bytes where room for them may have to be taken.
+#[cold]
+#[inline(never)]
+pub(crate) fn push_growing(out: &mut Vec<u8>, bytes: &[u8]) -> Result<(), Memory>
+    ensures { OnOk result (out.new.items ≡ out.old.items ++ bytes.now) }
+{
+    push(out, bytes)
+}
+
+// Adds bytes that the compiler knows.
+#[inline(always)]
+pub(crate) fn push_known(out: &mut Vec<u8>, bytes: &[u8]) -> Result<(), Memory>
+    ensures { OnOk result (out.new.items ≡ out.old.items ++ bytes.now) }
+{
+    if has_room(out, bytes.len()) {
+        return push(out, bytes);
+    }
+    push_growing(out, bytes)
+}
+
 // Adds a number of two digits.
 #[tactic(auto, using(crate::proofs::Digits::two_digits))]
 fn push_two_digits(out: &mut Vec<u8>, number: u8) -> Result<(), Memory>
@@ -78,9 +105,9 @@ fn push_long_number(out: &mut Vec<u8>, number: u64) -> Result<(), Memory>
     push(out, Buffer::new().format(number).as_bytes())
 }
 
-// Adds a number of more than one digit.
+// Adds a number of more than one digit, where room may have to be taken.
 #[inline(never)]
-fn push_digits(out: &mut Vec<u8>, number: u64) -> Result<(), Memory>
+fn push_more_digits(out: &mut Vec<u8>, number: u64) -> Result<(), Memory>
     requires { 10 ≤ number }
     ensures { OnOk result (out.new.items ≡ out.old.items ++ decimal number) }
 {
@@ -94,6 +121,21 @@ fn push_digits(out: &mut Vec<u8>, number: u64) -> Result<(), Memory>
         return push_four_digits(out, number as u16);
     }
     push_long_number(out, number)
+}
+
+// Adds a number of more than one digit.
+#[inline(never)]
+fn push_digits(out: &mut Vec<u8>, number: u64) -> Result<(), Memory>
+    requires { 10 ≤ number }
+    ensures { OnOk result (out.new.items ≡ out.old.items ++ decimal number) }
+{
+    if number < 1000 && has_room(out, 3) {
+        if number < 100 {
+            return push_two_digits(out, number as u8);
+        }
+        return push_three_digits(out, number as u16);
+    }
+    push_more_digits(out, number)
 }
 
 /// Adds a number in decimal digits.
@@ -118,19 +160,6 @@ fn push_two_digits_then(out: &mut Vec<u8>, number: u8, byte: u8) -> Result<(), M
     push(out, &[b'0' + number / 10, b'0' + number % 10, byte])
 }
 
-// Adds a number of more than one digit, and a byte behind it.
-#[inline(always)]
-fn push_digits_then(out: &mut Vec<u8>, number: u64, byte: u8) -> Result<(), Memory>
-    requires { 10 ≤ number }
-    ensures { OnOk result (out.new.items ≡ out.old.items ++ (decimal number ++ byte ∷ [])) }
-{
-    if number < 100 {
-        return push_two_digits_then(out, number as u8, byte);
-    }
-    push_digits(out, number)?;
-    push_byte(out, byte)
-}
-
 // Adds a number of one digit, and a byte behind it.
 #[tactic(auto, using(crate::proofs::Digits::digit_then))]
 fn push_digit_then(out: &mut Vec<u8>, digit: u8, byte: u8) -> Result<(), Memory>
@@ -140,15 +169,56 @@ fn push_digit_then(out: &mut Vec<u8>, digit: u8, byte: u8) -> Result<(), Memory>
     push(out, &[b'0' + digit, byte])
 }
 
+// Adds a number of three digits, and a byte behind it.
+#[tactic(auto, using(crate::proofs::Digits::three_digits_then))]
+fn push_three_digits_then(out: &mut Vec<u8>, number: u16, byte: u8) -> Result<(), Memory>
+    requires { (100 ≤ number) × (number < 1000) }
+    ensures { OnOk result (out.new.items ≡ out.old.items ++ (decimal number ++ byte ∷ [])) }
+{
+    let tens = number / 10;
+    push(
+        out,
+        &[
+            b'0' + (tens / 10) as u8,
+            b'0' + (tens % 10) as u8,
+            b'0' + (number % 10) as u8,
+            byte,
+        ],
+    )
+}
+
+// Adds any number, and a byte behind it.
+#[inline(never)]
+fn push_any_then(out: &mut Vec<u8>, number: u64, byte: u8) -> Result<(), Memory>
+    ensures { OnOk result (out.new.items ≡ out.old.items ++ (decimal number ++ byte ∷ [])) }
+{
+    push_number(out, number)?;
+    push_byte(out, byte)
+}
+
+// Adds a number of more than two digits, and a byte behind it.
+#[inline(never)]
+fn push_longer_then(out: &mut Vec<u8>, number: u64, byte: u8) -> Result<(), Memory>
+    ensures { OnOk result (out.new.items ≡ out.old.items ++ (decimal number ++ byte ∷ [])) }
+{
+    if (100..1000).contains(&number) && has_room(out, 4) {
+        return push_three_digits_then(out, number as u16, byte);
+    }
+    push_any_then(out, number, byte)
+}
+
 // Adds a number in decimal digits, and a byte behind it.
 #[inline(always)]
 pub(crate) fn push_number_then(out: &mut Vec<u8>, number: u64, byte: u8) -> Result<(), Memory>
     ensures { OnOk result (out.new.items ≡ out.old.items ++ (decimal number ++ byte ∷ [])) }
 {
-    if number < 10 {
-        return push_digit_then(out, number as u8, byte);
+    if number < 100 && has_room(out, 3) {
+        if number < 10 {
+            return push_digit_then(out, number as u8, byte);
+        }
+        return push_two_digits_then(out, number as u8, byte);
     }
-    push_digits_then(out, number, byte)
+    push_longer_then(out, number, byte)
 }
 
 // A signed number as a byte, where it is one digit.
@@ -194,6 +264,15 @@ pub fn push_signed(out: &mut Vec<u8>, number: i32) -> Result<(), Memory>
     push_long_signed(out, number)
 }
 
+// Adds any signed number, and a space.
+#[inline(never)]
+fn push_long_signed_and_space(out: &mut Vec<u8>, number: i32) -> Result<(), Memory>
+    ensures { OnOk result (out.new.items ≡ out.old.items ++ (signed_decimal number ++ 32 ∷ [])) }
+{
+    push_long_signed(out, number)?;
+    push_byte(out, b' ')
+}
+
 // Adds a signed number in decimal digits, and a space.
 #[inline(always)]
 pub(crate) fn push_signed_and_space(out: &mut Vec<u8>, number: i32) -> Result<(), Memory>
@@ -202,8 +281,7 @@ pub(crate) fn push_signed_and_space(out: &mut Vec<u8>, number: i32) -> Result<()
     if number >= 0 {
         return push_number_then(out, number as u64, b' ');
     }
-    push_long_signed(out, number)?;
-    push_byte(out, b' ')
+    push_long_signed_and_space(out, number)
 }
 
 // Whether a byte stands for itself between quotes.
@@ -262,8 +340,39 @@ fn push_escapes(out: &mut Vec<u8>, text: &[u8]) -> Result<(), Memory>
     Ok(())
 }
 
+// Adds a text that has no byte to escape.
+#[inline(always)]
+#[tactic(auto, using(crate::proofs::Escapes::plain_text))]
+fn push_unescaped(out: &mut Vec<u8>, text: &[u8]) -> Result<(), Memory>
+    requires { list_all is_plain text.now ≡ true }
+    ensures { OnOk result (out.new.items ≡ out.old.items ++ flat_map escape text.now) }
+{
+    push(out, text)
+}
+
+// Adds a text in quotes, where it has no byte to escape.
+fn push_plain(out: &mut Vec<u8>, text: &[u8]) -> Result<(), Memory>
+    requires { list_all is_plain text.now ≡ true }
+    ensures { OnOk result (out.new.items ≡ out.old.items ++ quoted_text text.now) }
+{
+    push_byte(out, b'"')?;
+    push_unescaped(out, text)?;
+    push_byte(out, b'"')
+}
+
 /// Adds these bytes in quotes, each that isn't plain as `\xHH`.
 pub fn push_quoted(out: &mut Vec<u8>, text: &[u8]) -> Result<(), Memory>
+    ensures { OnOk result (out.new.items ≡ out.old.items ++ quoted_text text.now) }
+{
+    if text.len() <= 64 && has_room(out, 66) && all_plain(text) {
+        return push_plain(out, text);
+    }
+    push_long_quoted(out, text)
+}
+
+// Adds any bytes in quotes.
+#[inline(never)]
+fn push_long_quoted(out: &mut Vec<u8>, text: &[u8]) -> Result<(), Memory>
     ensures { OnOk result (out.new.items ≡ out.old.items ++ quoted_text text.now) }
 {
     push_byte(out, b'"')?;
@@ -316,7 +425,7 @@ fn push_repeat(out: &mut Vec<u8>, count: usize, byte: u8) -> Result<(), Memory>
     ensures { OnOk result
         (out.new.items ≡ out.old.items ++ (codes "rep:" ++ decimal count ++ 58 ∷ byte ∷ [])) }
 {
-    if (10..100).contains(&count) {
+    if (10..100).contains(&count) && has_room(out, 8) {
         return push_short_repeat(out, count as u8, byte);
     }
     push_long_repeat(out, count as u64, byte)

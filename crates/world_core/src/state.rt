@@ -367,6 +367,7 @@ impl State {
     }
 
     /// The first event that may come next, round the nodes: of those behind this one, and then of those up to it.
+    #[inline(always)]
     pub(crate) fn in_turn(&self, after: Node) -> Option<Event>
         requires alive { IsAlive self.now }
         requires there { after ≤ node_count self.now.script }
@@ -415,6 +416,7 @@ impl State {
     }
 
     /// The node's process starts its next call: the entries follow in the journal, and the frames go their ways.
+    #[inline(always)]
     fn run(&mut self, node: Node) -> Result<(), Memory>
         requires seats { AreSeats self.old.nodes.items self.old.inboxes.items }
         requires sound { IsSoundScript self.old.script }

@@ -95,6 +95,7 @@ impl StreamingWorld {
 
     /// The first event that may come next, round the nodes: of the nodes behind `after`, and then of those up to it.
     /// None at rest.
+    #[inline(always)]
     pub fn in_turn(&self, after: Node) -> Option<Event>
         requires whole { IsSome self.now }
         requires there { IfSome self.now (λ w. after ≤ size w) }
@@ -146,6 +147,7 @@ impl StreamingWorld {
 
     /// Carries out an event that may come next. After an `Err` the world is spent: an allocation was refused, or it was
     /// spent before.
+    #[inline(always)]
     pub fn step(&mut self, event: Event) -> Result<(), Memory>
         requires enabled { IfSome self.old (λ w. is_enabled w event ≡ true) }
         ensures ok { OnOk result (IsStepped self.old event self.new) }

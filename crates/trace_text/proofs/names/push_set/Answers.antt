@@ -14,4 +14,4 @@ pub returns : goal.returns
 returns c =
     let names = c.in_ok-push_members.ensures.names in
     let whole = set_text-of_none c.args.set (sym c.if-branch.false ∙ c.in_ok-push_members.ensures.any) in
-    on_ok_weaker c.push.result (λ e. one_part_more _ _ _ _ _ _ names whole e) c.push.ensures
+    on_ok_weaker c.push_known.result (λ e. one_part_more _ _ _ _ _ _ names whole e) c.push_known.ensures
