@@ -1,2 +1,3 @@
 mod Packed
 mod Spelt
+mod Alone

@@ -1,5 +1,6 @@
 //! A node takes a frame about a queue or set that moves.
 ghost use Rattle.std.specs.Prelude.{◌≡◌, ◌&&◌, IfOk, IsTrue, OnOk, Some, unwrap_or};
+ghost use Rattle.std.specs.Bool.{OnTrue};
 ghost use Rattle.std.specs.List.{list_all};
 ghost use Rattle.std.specs.Option.{option_and_then, option_map};
 ghost use Rattle.kernel_model.specs.Script.{IsSoundScript};
@@ -16,12 +17,12 @@ ghost use Rattle.world_model.specs.Releases.{release};
 ghost use Rattle.world_model.specs.Moves.{suggest, take_give_back, take_grant, take_recall, take_suggest};
 ghost use Rattle.node_state.specs.State.{node_of, step_of};
 ghost use Rattle.node_state.specs.Turning.{IsFresh, Turns};
-ghost use Rattle.move_rules.specs.Coming.{IsDeed, TellsDeed, deed_of, sent_on};
+ghost use Rattle.move_rules.specs.Coming.{IsDeed, IsUnawaited, TellsDeed, come_unread, deed_of, passed_unread, sent_on};
 
 use deed_box::Shared;
 use end_rules::release;
 use lease_leader::HeldList;
-use node_serve::{Body, callers};
+use node_serve::{Body, callers, is_unawaited};
 use node_state::forms::{is_node, is_object};
 use node_state::{Growing, LEADER, State, TurnFault, unreached};
 use pico_base::{Memory, Name, Node, Script, UnpackFault};
@@ -236,6 +237,70 @@ fn come_back(
     release(step, script, items)
 }
 
+/// Only where the deed is read as a body at which nobody waits is it true. It takes no memory.
+fn comes_alone(deed: &PackedDeed) -> bool
+    ensures { OnTrue result (IsUnawaited deed.now) }
+{
+    is_unawaited(deed.name, deed.body.as_slice())
+}
+
+/// The deed has come and goes on to the node, unread: what was held for its name. Memory, too, where the name isn't on
+/// its way.
+fn pass_unread(step: &mut Growing, deed: PackedDeed, to: Node) -> Result<HeldList, Memory>
+    requires fresh { IsFresh step.old }
+    ensures held { IfOk result (λ items. items ≡ held_for step.old.node.leader.directory deed.name) }
+    ensures passed { OnOk result (step_of step.new ≡ passed_unread (node_of step.old.node) deed to) }
+{
+    let items = arrive(step, &deed.name, to)?;
+    step.send(to, Frame::Grant { deed })?;
+    Ok(items)
+}
+
+/// The deed has come and goes on to the node, unread, and what was held for its name is released. Memory, too, where
+/// one of the items has no rule.
+fn come_unread(
+    step: &mut Growing,
+    script: &Script,
+    deed: PackedDeed,
+    to: Node,
+) -> Result<(), Memory>
+    requires fresh { IsFresh step.old }
+    requires sound { IsSoundScript script.now }
+    ensures { OnOk result (come_unread script.now (node_of step.old.node) deed to ≡ Some (step_of step.new)) }
+{
+    let items = pass_unread(step, deed, to)?;
+    release(step, script, items)
+}
+
+/// The deed has come back and is read.
+fn come_read(step: &mut Growing, script: &Script, deed: PackedDeed) -> Result<(), TurnFault>
+    requires fresh { IsFresh step.old }
+    requires sound { IsSoundScript script.now }
+    ensures { Turns (option_and_then (come_back script.now (node_of step.old.node) deed.name) (read_deed deed))
+        step.old step.new result }
+{
+    let Some(body) = read_deed(step.node.alloc, &deed)? else {
+        return Err(TurnFault::NotAllowed);
+    };
+    if !has_nodes(step.node.alloc, script, &body)? {
+        return Err(TurnFault::NotAllowed);
+    }
+    Ok(come_back(step, script, deed, body)?)
+}
+
+/// The deed has come back. Where it goes on and nobody waits it isn't read, as whoever gets it reads it.
+fn receive_back(step: &mut Growing, script: &Script, deed: PackedDeed) -> Result<(), TurnFault>
+    requires fresh { IsFresh step.old }
+    requires sound { IsSoundScript script.now }
+    ensures { Turns (option_and_then (come_back script.now (node_of step.old.node) deed.name) (read_deed deed))
+        step.old step.new result }
+{
+    match goes_on_to(&step.node, &deed.name) {
+        Some(to) if comes_alone(&deed) => Ok(come_unread(step, script, deed, to)?),
+        _ => come_read(step, script, deed),
+    }
+}
+
 /// Whether the leader takes a deed of this name that is given back.
 fn may_come_back(node: &State, name: &Name) -> bool
     ensures { result ≡ (is_leader (node_of node.now)
@@ -261,13 +326,7 @@ pub fn take_give_back(
     if !may_come_back(&step.node, &name) {
         return Err(TurnFault::NotAllowed);
     }
-    let Some(body) = read_deed(step.node.alloc, &deed)? else {
-        return Err(TurnFault::NotAllowed);
-    };
-    if !has_nodes(step.node.alloc, script, &body)? {
-        return Err(TurnFault::NotAllowed);
-    }
-    Ok(come_back(step, script, deed, body)?)
+    receive_back(step, script, deed)
 }
 
 /// The deed has come, and is kept. NotAllowed, with nothing changed, where its bytes spell no body that goes with its

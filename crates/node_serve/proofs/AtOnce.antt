@@ -10,7 +10,7 @@ use Rattle.pico_base.specs.declared.reply.Errno.TheVariants.{Eagain, Enomsg}
 use Rattle.pico_base.specs.declared.numbers.Name.{Name}
 use Rattle.pico_base.specs.declared.numbers.Name.TheVariants.{Proc, Msg, Sem}
 use Rattle.pico_base.specs.declared.reply.Reply.{Reply}
-use Rattle.pico_base.specs.declared.reply.Reply.TheVariants.{Num}
+use Rattle.pico_base.specs.declared.reply.Reply.TheVariants.{Num, Fail}
 use Rattle.number_maps.specs.Maps.{get}
 use Rattle.kernel_model.specs.Kernel.{Kernel}
 use Rattle.kernel_model.specs.Queue.{Queue, Received, send, receive, set_qbytes}
@@ -182,6 +182,38 @@ set-at-once s new who reply nobody still go does =
     ∙ set-carried s.state who.caller who.ticket who.pid who.call go
     ∙ ap (λ (d : Done SemaphoreSet). replied_alone (unawaited d.left) d.reply) does
     ∙ ap (λ (ws : List Waiting). replied_alone (awaited new.state ws) reply) (sym still)
+
+-- ---- a call whose try gives a reply, also one that may have to wait
+
+goes-on : {V : Type 0} (try : Try V) (object new : Awaited V) (who : Waiting) (reply : Reply) → object.waiters ≡ []
+    → new.waiters ≡ [] → try object.state who.pid who.call ≡ Some (attempt new.state reply)
+    → carry_out try object who ≡ replied_alone new reply
+goes-on {V} try object new who reply nobody still gives =
+    ap (λ (ws : List Waiting). carry_out try (awaited object.state ws) who) nobody
+    ∙ carried-as try object.state who (record { left = new.state; reply = reply }) gives
+    ∙ ap (λ (ws : List Waiting). replied_alone (awaited new.state ws) reply) (sym still)
+
+pub queue-goes-on : (q new : Awaited Queue) (who : Waiting) (reply : Reply) → q.waiters ≡ [] → new.waiters ≡ []
+    → try_queue q.state who.pid who.call ≡ Some (attempt new.state reply)
+    → carry_out_on_queue q who ≡ replied_alone new reply
+queue-goes-on q new who reply nobody still gives = goes-on try_queue q new who reply nobody still gives
+
+pub operates : (s new : Awaited SemaphoreSet) (caller ticket pid id : ℕ) (steps : List SemStep) (reply : Reply)
+    → s.waiters ≡ [] → new.waiters ≡ [] → try_op s.state pid steps ≡ Some (attempt new.state reply)
+    → carry_out_on_set s (waiter_in caller ticket pid (calls.SemOp id steps)) ≡ replied_alone new reply
+operates s new caller ticket pid id steps reply nobody still gives =
+    goes-on try_set s new (waiter_in caller ticket pid (calls.SemOp id steps)) reply nobody still gives
+
+-- operations of which none may wait
+pub operated : (s new : SemaphoreSet) (pid : ℕ) (steps : List SemStep) → list_any may_wait steps ≡ false
+    → op s pid steps ≡ Ok new → try_op s pid steps ≡ Some (attempt new (Num 0))
+operated s new pid steps none does =
+    op-tried s pid steps none ∙ ap (λ (r : Result SemaphoreSet Errno). tried_as (change s r)) does
+
+pub refuses-to-operate : (s : SemaphoreSet) (pid : ℕ) (steps : List SemStep) (e : Errno)
+    → list_any may_wait steps ≡ false → op s pid steps ≡ Err e → try_op s pid steps ≡ Some (attempt s (Fail e))
+refuses-to-operate s pid steps e none does =
+    op-tried s pid steps none ∙ ap (λ (r : Result SemaphoreSet Errno). tried_as (change s r)) does
 
 -- ---- a body of a kernel in which nobody waits
 

@@ -16,6 +16,7 @@ use Rattle.waiting_model.specs.Effect.{Effect}
 use Rattle.waiting_model.specs.Kernel.{Kernel}
 use Rattle.waiting_model.specs.Marks.{Alive}
 use Rattle.waiting_model.specs.Transition.{effect, effect_by}
+use Rattle.deed_box.specs.Deeds.{AreRising}
 use Rattle.node_model.specs.Awaiting.{Applied, on_whole}
 use Rattle.node_model.specs.Bodies as model
 use Rattle.node_model.specs.Bodies.{kernel_with, waiters_of}
@@ -29,9 +30,12 @@ use Rattle.node_serve.specs.declared.body.Body.TheVariants.{Gone}
 use Rattle.node_serve.specs.declared.serving.Readers.{Readers}
 use Rattle.node_serve.specs.declared.serving.Served.{Served}
 use Rattle.node_serve.specs.declared.serving.Served.TheVariants.{Did, NotAdmitted, NotHeld}
+use Rattle.node_serve.specs.declared.prompt.Replied.{Replied}
 use Rattle.node_serve.specs.Bodies.{bodies_of, body_of}
-use Rattle.node_serve.specs.Serving.{Carries, IsDefined, MayMake, Refuses, Serves, ServesAsDefined, admits_at, bury_found, held_at, may_be_served, nodes_that_read, reads_among}
+use Rattle.node_serve.specs.Prompt.{AnswersOr, IsAnswered, IsPrompt, PromptOr}
+use Rattle.node_serve.specs.Serving.{Carries, IsDefined, MayMake, Refuses, Serves, ServesAsDefined, admits_at, bury_found, child_in, held_at, may_be_served, nodes_that_read, reads_among}
 use Rattle.node_serve.proofs.KernelLemmas.{bodies-get, bodies-put, differ}
+use Rattle.node_serve.proofs.ServingLemmas.{put-again}
 
 -- ---- a call that may be served has an effect
 
@@ -160,3 +164,47 @@ module _ (old : Named Body) (who : Waiting) (served : may_be_served who.call ≡
   serves-as-defined new NotHeld h = not-held (name_for who.pid who.call) refl h.0
   serves-as-defined new NotAdmitted h = refused h.0
   serves-as-defined new (Did own wakes reads readers) h = defined new own wakes reads readers h
+
+-- ---- a call that has its reply at once
+
+childless-found : (reply : Reply) → child_in (Some reply) ≡ None → found_gone (Some reply) ≡ []
+childless-found (replies.Child child ending) none = absurd (cc)
+childless-found reply none = refl
+
+answered : (old : Named Body) (name : Name) (who : Waiting) (body left : Body) (at : Replied)
+    → get_named old name ≡ Some body → IsPrompt name body who left at
+    → IsAnswered old name who (put_named old name left) at
+answered old name who body left at held p =
+    let b : model.Body = body_of body
+    in let e = has-effect (kernel_with name b) who (actor b) 0 who.call p.served
+    in let s : definition.Served = serve_by name b who e.made
+    in let on : serve_on name b who ≡ Some s = ap (option_map (serve_by name b who)) e.is
+    in let same : IsServedAs name (on_whole name b who) s =
+    served-is-on_whole name b who s p.names p.fits (λ own. differ (sym p.others ∙ own)) on
+    in let replies : Some at.reply ≡ s.own = sym (same.own ∙ ap (λ (d : Applied model.Body). d.own) p.does)
+    in let woken : [] ≡ s.wakes = sym (same.wakes ∙ ap (λ (d : Applied model.Body). d.wakes) p.does)
+    in let changes : s.changes ≡ (name, body_of left) ∷ [] =
+    same.changes ∙ ap (λ (d : Applied model.Body). (name, d.left) ∷ found_gone d.own) p.does
+    ∙ ap (λ (gone : List (Name × model.Body)). (name, body_of left) ∷ gone) (childless-found at.reply p.childless)
+    in record {
+      served = s;
+      admitted = ap (λ (o : Option model.Body). option_map_or (λ b. admits b who) o true)
+          (bodies-get old name ∙ ap (option_map body_of) held) ∙ p.admitted;
+      is = looked-up old who p.served (Some name) p.names
+          ∙ ap (option_and_then (λ b. serve_on name b who)) (bodies-get old name ∙ ap (option_map body_of) held)
+          ∙ on;
+      after = bodies-put old name left ∙ sym (ap (put_all (bodies_of old)) changes);
+      replies = replies;
+      woken = woken;
+      read = ap (λ (reads : Bool). caller_if reads who.caller ++ []) p.read
+          ∙ ap (λ (own : Option Reply). caller_if (has_read_if who.call own) who.caller ++ []) replies
+          ∙ ap (λ (ws : List Wake). caller_if (has_read_if who.call e.made.own) who.caller
+          ++ map (λ w. w.caller) (filter (woken_reads (waiters_of b)) ws)) woken;
+    }
+
+-- or all stays
+pub answered-or : (old : Named Body) (name : Name) (who : Waiting) (body left : Body) (o : Option Replied)
+    → AreRising old → get_named old name ≡ Some body → PromptOr name body who left o
+    → AnswersOr old name who (put_named old name left) o
+answered-or old name who body left None rising held p = ap (put_named old name) p ∙ put-again old name body rising held
+answered-or old name who body left (Some at) rising held p = answered old name who body left at held p

@@ -5,6 +5,7 @@ pub mod Defined
 pub mod InKernel
 pub mod KernelLemmas
 pub mod Parcels
+pub mod Prompts
 pub mod Reading
 pub mod ReadTaken
 pub mod ServingLemmas
@@ -12,3 +13,4 @@ pub mod Taken
 pub mod Waking
 pub mod WhoReads
 pub mod Withdrawals
+pub mod Alone

@@ -1,5 +1,5 @@
 -- The bytes of bodies (profile): a code for the kind, and its fields.
-use Rattle.std.specs.Prelude.{◌≡◌, ℕ, ◌<◌, Bool, List, [], ◌∷◌, ◌++◌}
+use Rattle.std.specs.Prelude.{◌≡◌, ℕ, ◌<◌, Bool, IsTrue, List, [], ◌∷◌, ◌++◌}
 use Rattle.pico_base.specs.declared.numbers.Name.{Name}
 use Rattle.pico_base.specs.declared.reply.Ending.{Ending}
 use Rattle.pico_base.specs.declared.reply.Ending.TheVariants.{Exited, Killed}
@@ -7,7 +7,7 @@ use Rattle.signal_state.specs.Spelling.{signal_bytes, HasBytes as HasSignalBytes
 use Rattle.fork_wait.specs.Spelling.{ending_bytes, family_bytes, HasBytes as HasFamilyBytes}
 use Rattle.sysv_msg.specs.Body as queues
 use Rattle.sysv_sem.specs.Body as sets
-use Rattle.node_model.specs.Bodies.{fits_name}
+use Rattle.node_model.specs.Bodies.{fits_name, waiters_of}
 use Rattle.node_serve.specs.Bodies.{body_of}
 use Rattle.node_serve.specs.declared.body.Row.{Row}
 use Rattle.node_serve.specs.declared.body.Body.{Body}
@@ -37,3 +37,10 @@ IsSpelled Removed bytes = bytes ≡ 6 ∷ []
 -- the kinds of bodies that go with a name
 abbrev pub suits : Body → Name → Bool
 suits body name = fits_name name (body_of body)
+
+-- the bytes are a body's that goes with the name, and at which nobody waits
+pub record IsUnawaited (name : Name) (bytes : List ℕ) : Type 0 where
+  pub body : Body
+  pub suits_name : IsTrue (suits body name)
+  pub spelled : IsSpelled body bytes
+  pub nobody : waiters_of (body_of body) ≡ []

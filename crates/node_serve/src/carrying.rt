@@ -69,7 +69,7 @@ fn who_reads(alloc: Global, body: &Body) -> Result<Readers, Memory>
 }
 
 /// Whether an operation takes from its semaphore.
-fn takes_away(steps: &[SemStep]) -> bool
+pub(crate) fn takes_away(steps: &[SemStep]) -> bool
     ensures { result ≡ list_any takes_away steps.now }
 {
     steps.iter().any(|step| step.add < 0)

@@ -1,11 +1,12 @@
 //! Bodies read from bytes.
 ghost use Rattle.std.specs.Prelude.{◌≡◌, ◌∷◌, [], ℕ, Err, None, true, false, IsTrue, IfOk, IfSome};
+ghost use Rattle.std.specs.Bool.{OnTrue};
 ghost use Rattle.pico_base.specs.declared.fault.UnpackFault.TheVariants.{NotABody};
 ghost use Rattle.pico_base.specs.declared.reply.Ending.{Ending as Ends};
 ghost use Rattle.fork_wait.specs.Spelling.{ending_bytes};
 ghost use Rattle.node_serve.specs.declared.body.Row.{Row as Rows};
 ghost use Rattle.node_serve.specs.declared.body.Body.{Body as Bodies};
-ghost use Rattle.node_serve.specs.Spelled.{IsEnding, IsRow, IsSpelled, suits};
+ghost use Rattle.node_serve.specs.Spelled.{IsEnding, IsRow, IsSpelled, IsUnawaited, suits};
 
 use crate::packing::{ENDED, GONE, LIVING, REMOVED};
 use crate::{Body, Row};
@@ -105,5 +106,24 @@ pub(crate) fn unpack(alloc: Global, name: Name, bytes: &[u8]) -> Result<Body, Un
         Name::Proc(_) => process_of(alloc, bytes),
         Name::Msg(_) => queue_of(alloc, bytes),
         Name::Sem(_) => set_of(alloc, bytes),
+    }
+}
+
+/// Whether the bytes are those of a queue or set that was removed.
+fn are_removed(bytes: &[u8]) -> bool
+    ensures { OnTrue result (bytes.now ≡ 6 ∷ []) }
+{
+    matches!(bytes, [REMOVED])
+}
+
+/// Only where the bytes spell a queue or a set that goes with the name, and at which nobody waits, is it true. It takes
+/// no memory.
+pub fn is_unawaited(name: Name, bytes: &[u8]) -> bool
+    ensures { OnTrue result (IsUnawaited name bytes.now) }
+{
+    match name {
+        Name::Proc(_) => false,
+        Name::Msg(_) => are_removed(bytes) || Queue::is_unawaited(bytes),
+        Name::Sem(_) => are_removed(bytes) || SemSet::is_unawaited(bytes),
     }
 }

@@ -249,6 +249,7 @@ impl Growing {
 
     /// A call of this node's process is started and carried out here at once: an entry, and the call's end, with no
     /// copy of the call kept meanwhile. Memory, too, where its line isn't there.
+    #[inline(always)]
     pub fn carry_out_at_once(
         &mut self,
         script: &Script,

@@ -8,10 +8,12 @@ use Rattle.waiting_model.specs.declared.callers.Wake.{Wake}
 use Rattle.node_model.specs.Kinds.{Named}
 use Rattle.node_model.specs.Serving.{caller_if, name_for}
 use Rattle.node_serve.specs.declared.body.Body.{Body}
+use Rattle.node_serve.specs.declared.prompt.Replied.{Replied}
 use Rattle.node_serve.specs.declared.serving.Readers.{Readers}
 use Rattle.node_serve.specs.declared.serving.Served.{Served}
 use Rattle.node_serve.specs.declared.serving.Served.TheVariants.{Did}
 use Rattle.node_serve.specs.Bodies.{bodies_of}
+use Rattle.node_serve.specs.Prompt.{IsAnswered}
 use Rattle.node_serve.specs.Serving.{IsDefined, MayMake, ServesAsDefined, admits_at, reads_among}
 use Rattle.serve_rules.specs.Held.{IsServed}
 
@@ -49,3 +51,16 @@ pub unwoken-here : (old new : Named Body) (name : Name) (who : Waiting) (own : O
 unwoken-here old new name who own wakes reads readers served defined may did named none =
     subst (λ (ws : List Wake). IsServed old name who new own ws reads []) none
     (served-here old new name who own wakes [] reads readers [] served defined may did named (sym none) refl)
+
+-- a call that had its reply at once is served with nobody woken
+pub answered-here : (old new : Named Body) (name : Name) (who : Waiting) (at : Replied) → IsAnswered old name who new at
+    → IsServed old name who new (Some at.reply) [] at.reads []
+answered-here old new name who at a = record {
+  served = a.served;
+  admitted = a.admitted;
+  is = a.is;
+  after = a.after;
+  replies = a.replies;
+  woken = a.woken;
+  read = a.read;
+}

@@ -1,5 +1,5 @@
 -- A call that is served on a name that is held, as the machine's rules have it.
-use Rattle.std.proofs.Common.{◌≡◌, ◌∙◌, ℕ, Bool, true, List, Option, Some, sym, ap, subst, refl}
+use Rattle.std.proofs.Common.{◌≡◌, ◌∙◌, ℕ, Bool, true, List, Option, Some, Result, OnOk, sym, ap, subst, refl}
 use Rattle.std.specs.Prelude.{if◌then◌else◌}
 use Rattle.std.specs.Option.{option_map}
 use Rattle.pico_base.specs.declared.call.Call.{Call}
@@ -16,6 +16,7 @@ use Rattle.node_serve.specs.declared.who.Who.{Who}
 use Rattle.node_serve.specs.Bodies.{bodies_of}
 use Rattle.node_serve.specs.Callers.{waiting_with}
 use Rattle.node_serve.specs.Serving.{admits_at}
+use Rattle.node_state.specs.Started.{started}
 use Rattle.world_model.specs.Node.{asked_here}
 use Rattle.world_model.specs.Serving.{has_room, is_struck, note_reads, serve_asked, serve_asked_with}
 use Rattle.world_model.specs.Starting.{act, carry_out_own}
@@ -100,3 +101,19 @@ acts script s name call who held left own wakes reads readers deeds by served =
     in ap (option_map (carry_out_own script s call))
     (ap (λ (ds : model.Deeds). serve ds (waiting_as (asked_here s.node call))) deeds ∙ here.is)
     ∙ ap (λ (t : Step). Some t) (rw (deeds, here.after, here.replies, here.woken) refl)
+
+-- ---- a step that is as it was
+
+pub as-before : {E : Type 0} (r : Result Unit E) (script : Script) (s t new : Step) (name : Name) (asked : Asked)
+    → t ≡ s
+    → OnOk r (serve_asked script t name asked ≡ Some new) → OnOk r (serve_asked script s name asked ≡ Some new)
+as-before r script s t new name asked same served =
+    subst (λ (u : Step). OnOk r (serve_asked script u name asked ≡ Some new)) same served
+
+pub started-as-before : {E : Type 0} (r : Result Unit E) (script : Script) (s t new : Step) (name : Name) (call : Call)
+    → t ≡ s
+    → OnOk r (serve_asked script (started t call) name (asked_here (started t call).node call) ≡ Some new)
+    → OnOk r (serve_asked script (started s call) name (asked_here (started s call).node call) ≡ Some new)
+started-as-before r script s t new name call same served =
+    subst (λ (u : Step).
+    OnOk r (serve_asked script (started u call) name (asked_here (started u call).node call) ≡ Some new)) same served

@@ -1,37 +1,41 @@
-use Rattle.std.proofs.Common.{[], Some, refl, subst}
+use Rattle.std.proofs.Common.{[], Option, Some, ap, refl, subst}
 use Rattle.std.proofs.lemmas.Result.{on_ok_weaker}
+use Rattle.node_model.specs.Kinds.{Named}
+use Rattle.node_serve.specs.declared.body.Body.{Body}
+use Rattle.node_serve.specs.declared.prompt.Replied.{Replied}
+use Rattle.node_serve.specs.Bodies.{bodies_of}
 use Rattle.node_serve.specs.Callers.{waiting_with}
+use Rattle.node_serve.specs.Prompt.{AnswersOr}
 use Rattle.node_state.specs.State.{step_of}
-use Rattle.serve_rules.specs.declared.carrying.Held.{Held}
-use Rattle.serve_rules.specs.Held.{IsServedHere}
-use Rattle.serve_rules.proofs.Served.{serves}
+use Rattle.world_model.specs.Step.{carry_out, with_deeds}
+use Rattle.serve_rules.proofs.Here.{answered-here}
+use Rattle.serve_rules.proofs.Served.{as-before, serves}
 use Rattle.serve_rules.proofs.serving.serve_asked.Goals as goal
 
-pub returns-in_ok-carry_out-in-AtOnce : goal.returns-in_ok-carry_out-in-AtOnce
-returns-in_ok-carry_out-in-AtOnce c =
-    on_ok_weaker c.note_caller.result
+pub returns-in-Some : goal.returns-in-Some
+returns-in-Some c =
+    on_ok_weaker c.end_asked.result
     (λ done.
-    serves c.args.script.now (step_of c.args.step.now) (step_of c.strike_if.new.self) (step_of c.carry_out.new.self)
-    (step_of c.note_caller.new.step) c.args.name c.args.asked c.who_asked-who.result
-    c.args.step.now.node.deeds.bodies c.serve_held.new.deeds.bodies (Some c.in-AtOnce.reply) [] c.in-AtOnce.reads
-    c.is_struck-struck.result [] [] refl c.who_asked-who.ensures
-    (subst (λ (h : Held).
-    IsServedHere c.args.step.now.node.deeds.bodies c.args.name (waiting_with c.who_asked-who.result c.args.asked.call)
-    c.serve_held.new.deeds.bodies h) c.in-AtOnce.is c.in_ok-served.ensures)
-    c.is_struck-struck.ensures c.strike_if.ensures c.in_ok-carry_out-in-AtOnce.ensures refl done)
-    c.note_caller.ensures
+    serves c.args.script.now (step_of c.args.step.now) (step_of c.strike_if.new.self)
+    (carry_out c.args.script.now (step_of c.strike_if.new.self) c.args.asked c.in-Some.at.reply)
+    (step_of c.end_asked.new.step) c.args.name c.args.asked c.who_asked-who.result c.args.step.now.node.deeds.bodies
+    c.reply_at_once.new.deeds.bodies (Some c.in-Some.at.reply) [] c.in-Some.at.reads c.is_struck-struck.result [] []
+    refl c.who_asked-who.ensures
+    (answered-here c.args.step.now.node.deeds.bodies c.reply_at_once.new.deeds.bodies c.args.name
+    (waiting_with c.who_asked-who.result c.args.asked.call) c.in-Some.at
+    (subst (λ (o : Option Replied).
+    AnswersOr c.args.step.now.node.deeds.bodies c.args.name (waiting_with c.who_asked-who.result c.args.asked.call)
+    c.reply_at_once.new.deeds.bodies o) c.in-Some.is c.in_ok-answered.ensures))
+    c.is_struck-struck.ensures c.strike_if.ensures refl refl done)
+    c.end_asked.ensures
 
-pub returns-in_ok-carry_out_waking-in-Did : goal.returns-in_ok-carry_out_waking-in-Did
-returns-in_ok-carry_out_waking-in-Did c =
-    on_ok_weaker c.note_reads.result
-    (λ done.
-    serves c.args.script.now (step_of c.args.step.now) (step_of c.strike_if-in-Did.new.self)
-    (step_of c.carry_out_waking.new.self) (step_of c.note_reads.new.step) c.args.name c.args.asked
-    c.who_asked-who.result c.args.step.now.node.deeds.bodies c.serve_held.new.deeds.bodies c.in-Did.own c.in-Did.wakes
-    c.in-Did.reads c.is_struck-struck.result c.in-Did.readers.items c.as_slice.result.now refl c.who_asked-who.ensures
-    (subst (λ (h : Held).
-    IsServedHere c.args.step.now.node.deeds.bodies c.args.name (waiting_with c.who_asked-who.result c.args.asked.call)
-    c.serve_held.new.deeds.bodies h) c.in-Did.is c.in_ok-served.ensures)
-    c.is_struck-struck.ensures c.strike_if-in-Did.ensures c.in_ok-carry_out_waking-in-Did.ensures
-    c.as_slice.ensures.value done)
-    c.note_reads.ensures
+pub returns-in-None : goal.returns-in-None
+returns-in-None c =
+    as-before c.serve_any.result c.args.script.now (step_of c.args.step.now)
+    (step_of (record c.args.step.now { node = record c.args.step.now.node { deeds = c.reply_at_once.new.deeds } }))
+    (step_of c.serve_any.new.step) c.args.name c.args.asked
+    (ap (λ (b : Named Body). with_deeds (step_of c.args.step.now) (bodies_of b))
+    (subst (λ (o : Option Replied).
+    AnswersOr c.args.step.now.node.deeds.bodies c.args.name (waiting_with c.who_asked-who.result c.args.asked.call)
+    c.reply_at_once.new.deeds.bodies o) c.in-None.is c.in_ok-answered.ensures))
+    c.serve_any.ensures
