@@ -163,6 +163,16 @@ def pool(calls: int) -> bytes:
     return script(blocks)
 
 
+def awaited(calls: int) -> bytes:
+    """A process that sends to a queue and receives from it, while thirty-one others wait there for what never comes. At
+    its end it removes the queue, which wakes all of them."""
+    workers = 31
+    names = [f"w{k}" for k in range(1, workers + 1)]
+    pairs = ['msgsnd $q 1 "ping"', "msgrcv $q 1 64"] * ((calls - 3 - 3 * workers) // 2)
+    main = ["q = msgget private", *(f"fork {name}" for name in names), *pairs, "msgctl $q rmid"]
+    return script({"main": main} | {name: ["msgrcv $q 9 64"] for name in names})
+
+
 def barrier(calls: int) -> bytes:
     """Thirty-two processes that go on together, round by round. A semaphore counts those who are still to come."""
     processes = 32
@@ -195,6 +205,7 @@ SHAPES = {
     "signals": signals,
     "ping-pong": ping_pong,
     "pool": pool,
+    "awaited": awaited,
     "barrier": barrier,
 }
 
