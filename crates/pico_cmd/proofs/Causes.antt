@@ -1,7 +1,7 @@
 -- From the status of the answer to the status that is told.
 use Rattle.std.proofs.Common.{◌≡◌, inl, inr, ◌⊎◌, List, ℕ, Option, Some, None, refl, ◌∙◌}
 use Rattle.pico_words.specs.declared.words.Request.{Request}
-use Rattle.pico_words.specs.declared.words.Request.TheVariants.{Run, Simulate, Check, Generate, Boxes}
+use Rattle.pico_words.specs.declared.words.Request.TheVariants.{Run, Simulate, Check, Generate, Boxes, Freeze, Thaw}
 use Rattle.pico_cmd.specs.declared.status.Status.{Status}
 use Rattle.pico_cmd.specs.declared.status.Status.TheVariants as status
 use Rattle.pico_cmd.specs.Promise.{EachCause, IsOrStops, IsWritten, OrStalled}
@@ -23,6 +23,10 @@ each_cause (Some Check) (Some bytes) P Q f h = λ s c. f s (h s c)
 each_cause (Some (Generate o)) left P Q f h = λ s c. f s (h s c)
 each_cause (Some Boxes) None P Q f h = tt
 each_cause (Some Boxes) (Some bytes) P Q f h = λ s c. or_stalled P Q f s (h s c)
+each_cause (Some (Freeze count)) None P Q f h = tt
+each_cause (Some (Freeze count)) (Some bytes) P Q f h = λ s c. f s (h s c)
+each_cause (Some Thaw) None P Q f h = tt
+each_cause (Some Thaw) (Some bytes) P Q f h = λ s c. or_stalled P Q f s (h s c)
 
 -- what holds of each status follows from each cause
 each_always : (asked : Option Request) (left : Option (List ℕ)) (Q : Status → Type 0) → ((s : Status) → Q s)
@@ -37,6 +41,10 @@ each_always (Some Check) (Some bytes) Q f = λ s c. f s
 each_always (Some (Generate o)) left Q f = λ s c. f s
 each_always (Some Boxes) None Q f = tt
 each_always (Some Boxes) (Some bytes) Q f = λ s c. inl (f s)
+each_always (Some (Freeze count)) None Q f = tt
+each_always (Some (Freeze count)) (Some bytes) Q f = λ s c. f s
+each_always (Some Thaw) None Q f = tt
+each_always (Some Thaw) (Some bytes) Q f = λ s c. inl (f s)
 
 written_or_stops : (got : Status) (text : List ℕ) (old new : Option (List ℕ)) (cause : Type 0) (r s : Status)
     → IsWritten got text old new cause r → got ≡ s → IsOrStops r s

@@ -62,3 +62,37 @@ choice_next w (InTurn last) e le is =
 choice_next w (Drawn x) e le is =
     found (IsNext w (size w)) (enabled_events w) (drawn x % length (enabled_events w)) e
     (next_among w (size w) (numbers 1 (size w)) (numbers_within 1 (size w) (size w) (omega arith))) is
+
+-- ---- the sender of a frame that is taken
+
+-- whom an event takes a frame from is one of so many nodes
+abbrev pub SenderWithin : ℕ → Event → Type 0
+SenderWithin count (events.Run p) = Unit {0}
+SenderWithin count (events.Take p from) = from ≤ count
+
+of_sender : (count p : ℕ) → All (SenderWithin count) (events_of count p)
+of_sender count p =
+    All-append (SenderWithin count) (map (λ from. events.Take p from) (numbers 1 count)) (events.Run p ∷ [])
+    (All-map (SenderWithin count) (λ from. events.Take p from) (numbers 1 count)
+    (numbers_within 1 count count (omega arith)))
+    (λ k d lt. elim k as (λ k. k < 1
+    → SenderWithin count (get_or (events.Run p ∷ []) k d)) [
+      | zero ↦ λ lt. tt
+      | suc k ↦ λ lt. absurd (let f : ⊥ = omega (arith, lt) in f)
+    ] lt)
+
+senders_among : (w : World) (nodes : List ℕ) → All (SenderWithin (size w)) (flat_map (enabled_at w) nodes)
+senders_among w [] = λ k d lt. absurd (let f : ⊥ = omega (arith, lt) in f)
+senders_among w (p ∷ nodes) =
+    All-append (SenderWithin (size w)) (enabled_at w p) (flat_map (enabled_at w) nodes)
+    (λ k d lt. All-filter (is_enabled w) (SenderWithin (size w)) (events_of (size w) p) (of_sender (size w) p) k d lt)
+    (senders_among w nodes)
+
+-- it is one of the world's nodes
+pub choice_sender : (w : World) (s : Schedule) (e : Event) → choice w s ≡ Some e → SenderWithin (size w) e
+choice_sender w (InTurn last) e is =
+    found (SenderWithin (size w)) (flat_map (enabled_at w) (nodes_after (size w) last)) 0 e
+    (senders_among w (nodes_after (size w) last)) is
+choice_sender w (Drawn x) e is =
+    found (SenderWithin (size w)) (enabled_events w) (drawn x % length (enabled_events w)) e
+    (senders_among w (numbers 1 (size w))) is

@@ -45,7 +45,7 @@ text_told script options es stalled telling text run wanted gives =
           ∙ ap (λ (b : Bool).
           (lines_if b last.script last.journal ++ totals_line last.journal) ++ steps_if options.steps es) wanted
           ∙ ap (λ (s : Script). trace_text s last.journal ++ steps_if options.steps es)
-          (runs_keep (opening_world script) last run.events run.run.run)
+          (runs_keep (opening_world script) last run.events run.run.to_rest.run)
           ∙ ap (λ (text : List ℕ). trace_text script last.journal ++ text)
           (kept_text options.steps es run.events run.are_kept);
     }

@@ -12,3 +12,11 @@ pub mod ScriptAnswers
 pub mod ToldSoFar
 pub mod Verdicts
 pub mod WorldTexts
+pub mod FrozenSizes
+pub mod Freezes
+pub mod Freezing
+pub mod ImageFaults
+pub mod Onward
+pub mod Sizes
+pub mod ThawLaw
+pub mod Thaws

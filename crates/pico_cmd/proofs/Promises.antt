@@ -12,7 +12,7 @@ use Rattle.pico_cmd.specs.declared.status.Status.{Status}
 use Rattle.pico_cmd.specs.declared.status.Status.TheVariants as status
 use Rattle.pico_words.specs.declared.words.Options.{Options}
 use Rattle.pico_words.specs.declared.words.Request.{Request}
-use Rattle.pico_words.specs.declared.words.Request.TheVariants.{Run, Simulate, Check, Generate, Boxes}
+use Rattle.pico_words.specs.declared.words.Request.TheVariants.{Run, Simulate, Check, Generate, Boxes, Freeze, Thaw}
 use Rattle.pico_cmd.specs.declared.program.Stop.{Stop}
 use Rattle.pico_cmd.specs.declared.program.Stop.TheVariants.{Memory, ReadFault}
 use Rattle.pico_cmd.specs.Stop.{AreBytesUpTo, IsReadFault, left_behind, most_read}
@@ -41,7 +41,7 @@ outcome_left bytes left (inl same) = ap (outcome) same.0
 outcome_left bytes left (inr long) = front_outcome bytes left long.0 long.1
 
 -- the fault of what was read is that of what was left
-fault_left : (bytes left : List ℕ) (line : ℕ) (fault : ScriptFault) → AreBytesUpTo 1048576 bytes left
+pub fault_left : (bytes left : List ℕ) (line : ℕ) (fault : ScriptFault) → AreBytesUpTo 1048576 bytes left
     → IsFirstFault bytes line fault → IsFirstFault left line fault
 fault_left bytes left line fault r f = sym (outcome_left bytes left r) ∙ f
 
@@ -74,6 +74,7 @@ Simulates-left o bytes left status.Memory text r a = a
 Simulates-left o bytes left status.ReadFault text r a = a
 Simulates-left o bytes left status.WriteFault text r a = a
 Simulates-left o bytes left status.NotLegal text r a = a
+Simulates-left o bytes left status.BadImage text r a = a
 
 trace_left : (steps : Bool) (bytes left text : List ℕ) (rested : List Rested)
     → AreBytesUpTo 1048576 bytes left → IsTraceOfThreads steps bytes text rested
@@ -102,6 +103,7 @@ RunsThreads-left steps bytes left status.Memory text rested r a = a
 RunsThreads-left steps bytes left status.ReadFault text rested r a = a
 RunsThreads-left steps bytes left status.WriteFault text rested r a = a
 RunsThreads-left steps bytes left status.NotLegal text rested r a = a
+RunsThreads-left steps bytes left status.BadImage text rested r a = a
 
 -- what `check` reads is the front of what was left
 front_left : (bytes left : List ℕ) → AreBytesUpTo 68161537 bytes left → take 68161538 left ≡ bytes
@@ -163,6 +165,8 @@ none_cut (Some (Simulate o)) left text rested a = a.answers.0
 none_cut (Some Check) left text rested a = a.answers.0.judges
 none_cut (Some (Generate o)) left text rested a = a.answers
 none_cut (Some Boxes) left text rested a = a.answers
+none_cut (Some (Freeze count)) left text rested a = a.answers.0
+none_cut (Some Thaw) left text rested a = a.answers.0
 
 -- no text goes with want of memory, nor with a read that failed
 pub none_memory : (asked : Option Request) (left : Option (List ℕ)) (text : List ℕ) (rested : List Rested)
@@ -173,6 +177,8 @@ none_memory (Some (Simulate o)) left text rested a = a.answers.0
 none_memory (Some Check) left text rested a = a.answers.0.judges
 none_memory (Some (Generate o)) left text rested a = a.answers
 none_memory (Some Boxes) left text rested a = a.answers
+none_memory (Some (Freeze count)) left text rested a = a.answers.0
+none_memory (Some Thaw) left text rested a = a.answers.0
 
 -- nor with a read that failed
 pub none_read_fault : (asked : Option Request) (left : Option (List ℕ)) (text : List ℕ) (rested : List Rested)
@@ -183,6 +189,8 @@ none_read_fault (Some (Simulate o)) left text rested a = a.answers.0
 none_read_fault (Some Check) left text rested a = a.answers.0.judges
 none_read_fault (Some (Generate o)) left text rested a = a.answers
 none_read_fault (Some Boxes) left text rested a = a.answers
+none_read_fault (Some (Freeze count)) left text rested a = a.answers.0
+none_read_fault (Some Thaw) left text rested a = a.answers.0
 
 -- a status with which no text goes isn't told of an answer
 pub not_told : (asked : Option Request) (left : Option (List ℕ)) (s : Status) (text : List ℕ) (rested : List Rested)
@@ -267,6 +275,7 @@ sim_cause bytes left got r done bad status.Memory c = absurd c
 sim_cause bytes left got r done bad status.ReadFault c = absurd c
 sim_cause bytes left got r done bad status.WriteFault c = absurd c
 sim_cause bytes left got r done bad status.NotLegal c = absurd c
+sim_cause bytes left got r done bad status.BadImage c = absurd c
 
 -- a status that follows from what `sim` read follows from what the source had left
 pub sim_causes : (o : Options) (told : Option (List ℕ)) (bytes : List ℕ) (got : Status)
@@ -303,6 +312,7 @@ gen_cause got e status.ReadFault c = absurd c
 gen_cause got e status.WriteFault c = absurd c
 gen_cause got e status.Stalled c = absurd c
 gen_cause got e status.NotLegal c = absurd c
+gen_cause got e status.BadImage c = absurd c
 
 -- for a generated script each cause's status is the one of success
 pub gen_causes : (o : Options) (told : Option (List ℕ)) (got : Status) → got ≡ status.Done

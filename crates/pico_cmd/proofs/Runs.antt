@@ -10,11 +10,12 @@ use Rattle.world_model.specs.Step.{Step}
 use Rattle.world_model.specs.Starting.{run}
 use Rattle.world_model.specs.Turn.{take_frame}
 use Rattle.world_model.specs.World.{World, opening_world, size, node_count, step, is_enabled, node_at, stream, with_stream, world_after, after_turn, runs_at, takes_at}
-use Rattle.world_model.specs.Schedule.{Schedule, InTurn, Drawn, Chooses, Follows, choice, schedule_of, schedule_after, node_of}
+use Rattle.world_model.specs.Schedule.{Schedule, InTurn, Drawn, Follows, choice, schedule_of, schedule_after, node_of}
 use Rattle.world_model.specs.Run.{Runs, IsRunOf, IsAtRest, is_stalled}
 use Rattle.world_core.specs.Laws.{IsWithin}
-use Rattle.pico_cmd.specs.Run.{IsScheduledRun}
+use Rattle.pico_cmd.specs.Run.{IsRunToRest, IsScheduledRun}
 use Rattle.pico_cmd.specs.Stalled.{IsLeftAs}
+use Rattle.pico_cmd.specs.Taking.{Takes}
 use Rattle.pico_cmd.proofs.Chosen.{IsNext, choice_next}
 use Rattle.pico_cmd.proofs.RunLaws.{Laws, left_as}
 
@@ -42,12 +43,8 @@ pub step_script : (w : World) (e : Event) (next : World) → step w e ≡ Some n
 step_script w (events.Run p) next e = runs_script w p (node_at w p) next e
 step_script w (events.Take p from) next e = takes_script w p from (node_at w p) (stream w p from) next e
 
--- these events are what the schedule takes from a world, and they lead to another world and schedule
-abbrev pub Takes : World → Schedule → List Event → World → Schedule → Type 0
-Takes w s [] now at = (w ≡ now) × (s ≡ at)
-Takes w s (e ∷ es) now at = Chooses w s e (λ next. Takes next (schedule_after s e) es now at)
-
-Takes-more : (w : World) (s : Schedule) (es : List Event) (now : World) (at : Schedule) (e : Event) (next : World)
+-- one event more is taken
+pub Takes-more : (w : World) (s : Schedule) (es : List Event) (now : World) (at : Schedule) (e : Event) (next : World)
     → Takes w s es now at → choice now at ≡ Some e → step now e ≡ Some next
     → Takes w s (es ++ e ∷ []) next (schedule_after at e)
 Takes-more w s [] now at e next t chosen stepped =
@@ -62,7 +59,8 @@ Takes-more w s (e1 ∷ es) now at e next t chosen stepped =
       rest = Takes-more t.next (schedule_after s e1) es now at e next t.rest chosen stepped;
     }
 
-Takes-end : (w : World) (s : Schedule) (es : List Event) (now : World) (at : Schedule)
+-- none is left to take
+pub Takes-end : (w : World) (s : Schedule) (es : List Event) (now : World) (at : Schedule)
     → Takes w s es now at → choice now at ≡ None → Follows w s es now
 Takes-end w s [] now at t none = (
   subst (λ (x : World). choice x s ≡ None) (sym t.0) (subst (λ (y : Schedule). choice now y ≡ None) (sym t.1) none),
@@ -106,7 +104,8 @@ of_first : (w : World) (b : Bool) (count seed : ℕ) → count ≤ size w
 of_first w true count seed le = le
 of_first w false count seed le = tt
 
-of_after : (w next : World) (at : Schedule) (e : Event) → next.script ≡ w.script → node_of e ≤ size w
+-- and so is its last event after one more
+pub of_after : (w next : World) (at : Schedule) (e : Event) → next.script ≡ w.script → node_of e ≤ size w
     → IsWithin (size next) (schedule_after at e)
 of_after w next (InTurn last) e same le = subst (λ (s : Script). node_of e ≤ node_count s) (sym same) le
 of_after w next (Drawn x) e same le = tt
@@ -155,24 +154,32 @@ IsUnderWay-more script seed taken more now next at next_at e u chosen stepped af
           (Runs-more first now next taken e u.run is_next.enabled stepped);
     }
 
+-- a run that has come to rest
+pub at_its_rest : Laws → (script : Script) (taken : List Event) (now : World) → IsSoundScript script
+    → IsRunOf script taken now → IsAtRest now → IsRunToRest script taken now
+at_its_rest laws script taken now sound run rest =
+    record {
+      run = run;
+      rest = rest;
+      quiet = laws.quiet script now sound (taken, run) rest;
+      legal = (laws.legal script now sound (taken, run)).0;
+      whole = laws.whole script now sound (taken, run) rest;
+      legal_so_far = λ count w front. (laws.legal script w sound (take count taken, front)).0;
+      owners = λ count w k name front. laws.owners script w k name sound (take count taken, front);
+      short = laws.short script sound taken now run;
+    }
+
 -- a run ends
 pub IsUnderWay-end : (script : Script) (seed : ℕ) (taken : List Event) (now : World) (at : Schedule)
     → Laws → IsSoundScript script
     → IsUnderWay script seed taken now at → choice now at ≡ None
     → IsScheduledRun script seed taken now
 IsUnderWay-end script seed taken now at laws sound u nothing =
-    let rest : IsAtRest now = laws.rest script now at (taken, u.run) u.of_world nothing
-    in record {
+    record {
       schedule = Takes-end (opening_world script)
           (schedule_of seed (node_count script)) taken now at u.takes nothing;
-      run = u.run;
-      rest = rest;
-      quiet = laws.quiet script now sound (taken, u.run) rest;
-      legal = (laws.legal script now sound (taken, u.run)).0;
-      whole = laws.whole script now sound (taken, u.run) rest;
-      legal_so_far = λ count w front. (laws.legal script w sound (take count taken, front)).0;
-      owners = λ count w k name front. laws.owners script w k name sound (take count taken, front);
-      short = laws.short script sound taken now u.run;
+      to_rest = at_its_rest laws script taken now sound u.run
+          (laws.rest script now at (taken, u.run) u.of_world nothing);
     }
 
 -- and is left so

@@ -60,6 +60,7 @@ RunsBoxes-left bytes left status.Memory text rested r a = a
 RunsBoxes-left bytes left status.ReadFault text rested r a = a
 RunsBoxes-left bytes left status.WriteFault text rested r a = a
 RunsBoxes-left bytes left status.NotLegal text rested r a = a
+RunsBoxes-left bytes left status.BadImage text rested r a = a
 
 -- and with the source, whether it tells its bytes or not
 pub told_boxes : (told : Option (List ℕ)) (bytes read : List ℕ) (s : Status) (text : List ℕ) (rested : List Rested)
@@ -89,6 +90,7 @@ boxes_cause bytes left got r done bad status.Memory c = absurd c
 boxes_cause bytes left got r done bad status.ReadFault c = absurd c
 boxes_cause bytes left got r done bad status.WriteFault c = absurd c
 boxes_cause bytes left got r done bad status.NotLegal c = absurd c
+boxes_cause bytes left got r done bad status.BadImage c = absurd c
 
 -- a status that follows from what was read follows from what the source had left
 pub boxes_causes : (told : Option (List ℕ)) (bytes read : List ℕ) (got : Status)

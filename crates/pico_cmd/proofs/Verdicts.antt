@@ -51,6 +51,7 @@ module _ (bytes : List ℕ) (script : Script) (trace : List ℕ) (first : ℕ) (
   judges_bytes status.ReadFault text h = absurd h
   judges_bytes status.WriteFault text h = absurd h
   judges_bytes status.Stalled text h = absurd h
+  judges_bytes status.BadImage text h = absurd h
 
   -- and has the causes that there are
   pub causes_read : (P : Status → Type 0)
@@ -76,6 +77,7 @@ module _ (bytes : List ℕ) (script : Script) (trace : List ℕ) (first : ℕ) (
   causes_read P legal refused status.ReadFault c = absurd c
   causes_read P legal refused status.WriteFault c = absurd c
   causes_read P legal refused status.Stalled c = absurd c
+  causes_read P legal refused status.BadImage c = absurd c
 
 -- a script with a fault is the only cause
 pub causes_fault : (bytes : List ℕ) (line : ℕ) (fault : ScriptFault) → checked_script bytes ≡ Err (At line fault)
@@ -90,6 +92,7 @@ causes_fault bytes line fault e status.Memory c = absurd c
 causes_fault bytes line fault e status.ReadFault c = absurd c
 causes_fault bytes line fault e status.WriteFault c = absurd c
 causes_fault bytes line fault e status.Stalled c = absurd c
+causes_fault bytes line fault e status.BadImage c = absurd c
 
 -- ---- refusals
 

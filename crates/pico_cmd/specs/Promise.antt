@@ -17,18 +17,25 @@ use Rattle.trace_check.specs.Refusal.{IsRefusal, refusal_text}
 use Rattle.sandbox_set.specs.declared.fault.BoxFault.{BoxFault}
 use Rattle.sandbox_set.specs.declared.read.Sandbox.{Sandbox}
 use Rattle.sandbox_set.specs.Boxes as boxes
+use Rattle.image_text.specs.declared.fault.ImageFault.{ImageFault}
+use Rattle.image_text.specs.Faults as images
+use Rattle.image_text.specs.Parts.{script_of, seen}
+use Rattle.world_model.specs.World.{World}
+use Rattle.world_image.specs.Thaws.{IsThawOf}
 use Rattle.pico_words.specs.declared.words.Options.{Options}
 use Rattle.pico_words.specs.declared.words.Request.{Request}
-use Rattle.pico_words.specs.declared.words.Request.TheVariants.{Run, Simulate, Check, Generate, Boxes}
+use Rattle.pico_words.specs.declared.words.Request.TheVariants.{Run, Simulate, Check, Generate, Boxes, Freeze, Thaw}
 use Rattle.pico_run.specs.declared.rested.Rested.{Rested}
 use Rattle.pico_cmd.specs.Run.{IsTextOfRun}
 use Rattle.pico_cmd.specs.Threads.{IsTextOfThreads, IsTotalsOfThreads}
 use Rattle.pico_cmd.specs.Boxed.{IsTextOfBoxes}
+use Rattle.pico_cmd.specs.Frozen.{IsFrozen}
+use Rattle.pico_cmd.specs.Thawed.{IsTextOfThaw, IsImageFault}
 use Rattle.pico_cmd.specs.Stalled.{are_left_stalled}
 use Rattle.pico_cmd.specs.Stop.{most_read}
 
 unfoldable pub usage_text : List ℕ
-usage_text = codes "usage: pico run|sim|check|gen|boxes [--seed N] [--steps]\n"
+usage_text = codes "usage: pico run|sim|check|gen|boxes|freeze|thaw [--seed N] [--steps]\n"
 
 -- a line, and the name of the fault that is there
 abbrev pub named_fault_text : ℕ → List ℕ → List ℕ
@@ -39,6 +46,9 @@ fault_text line fault = named_fault_text line (name_of fault)
 
 abbrev pub box_fault_text : ℕ → BoxFault → List ℕ
 box_fault_text line fault = named_fault_text line (boxes.name_of fault)
+
+abbrev pub image_fault_text : ℕ → ImageFault → List ℕ
+image_fault_text line fault = named_fault_text line (images.name_of fault)
 
 unfoldable pub legal_text : ℕ → List ℕ
 legal_text entries = codes "legal entries " ++ decimal entries ++ 10 ∷ []
@@ -144,6 +154,31 @@ RunsBoxes bytes status.Stalled text rested = AreTracesOfBoxes bytes text rested 
 RunsBoxes bytes status.BadScript text rested = IsBoxFaultOf bytes text × (rested ≡ [])
 RunsBoxes bytes _ text rested = ⊥
 
+-- ---- `freeze`
+
+-- what goes with a status for these bytes
+abbrev pub Freezes : ℕ → List ℕ → Status → List ℕ → Type 0
+Freezes count bytes status.Done text = IsFrozen count bytes text
+Freezes count bytes status.BadScript text = IsFaultOf bytes text
+Freezes count bytes _ text = ⊥
+
+-- ---- `thaw`
+
+-- the text names the first fault behind the image's script
+pub record IsImageFaultOf (image text : List ℕ) : Type 0 where
+  pub line : ℕ
+  pub fault : ImageFault
+  pub first : IsImageFault image line fault
+  pub is_text : text ≡ image_fault_text line fault
+
+-- what goes with a status for these bytes; a fault of the image's script comes before all others
+abbrev pub Thaws : List ℕ → Status → List ℕ → Type 0
+Thaws image status.Done text = IsTextOfThaw image false text
+Thaws image status.Stalled text = IsTextOfThaw image true text
+Thaws image status.BadScript text = IsFaultOf (script_of (seen image)) text
+Thaws image status.BadImage text = IsImageFaultOf image text
+Thaws image _ text = ⊥
+
 -- ---- each mode
 
 -- What goes with a status for what is asked for and the bytes that the source had, with the outcomes of the runs with
@@ -156,6 +191,8 @@ Answers (Generate options) bytes status.Done text rested =
     IsTotalsOfThreads (generated options.seed) options.steps text rested × (are_left_stalled rested ≡ false)
 Answers (Generate options) bytes _ text rested = ⊥
 Answers Boxes bytes s text rested = RunsBoxes bytes s text rested
+Answers (Freeze count) bytes s text rested = Freezes count bytes s text × (rested ≡ [])
+Answers Thaw bytes s text rested = Thaws bytes s text × (rested ≡ [])
 
 -- the same for bytes that are those that the source had left where it tells them
 pub record AnswersTold (request : Request) (left : Option (List ℕ)) (s : Status) (text : List ℕ)
@@ -173,7 +210,8 @@ Allows (Some request) left s text rested = AnswersTold request left s text reste
 
 -- ---- causes
 
--- what makes `run` and `sim` end so; a run that ends is Done or Stalled, which the run itself shows
+-- what makes `run` and `sim` end so; a run that ends is Done or Stalled, which the run itself shows. `freeze` ends so
+-- by the same causes, and is never Stalled.
 abbrev pub CauseOfSim : List ℕ → Status → Type 0
 CauseOfSim bytes status.Done = (script : Script) × Reads bytes script
 CauseOfSim bytes status.BadScript = (line : ℕ) × (fault : ScriptFault) × IsFirstFault bytes line fault
@@ -212,6 +250,14 @@ CauseOfBoxes bytes status.Done = (sandboxes : List Sandbox) × boxes.Reads bytes
 CauseOfBoxes bytes status.BadScript = (line : ℕ) × (fault : BoxFault) × boxes.IsFirstFault bytes line fault
 CauseOfBoxes bytes _ = ⊥
 
+-- what makes `thaw` end so
+abbrev pub CauseOfThaw : List ℕ → Status → Type 0
+CauseOfThaw image status.Done = (w : World) × (last : Option ℕ) × IsThawOf image w last
+CauseOfThaw image status.BadScript =
+    (line : ℕ) × (fault : ScriptFault) × IsFirstFault (script_of (seen image)) line fault
+CauseOfThaw image status.BadImage = (line : ℕ) × (fault : ImageFault) × IsImageFault image line fault
+CauseOfThaw image _ = ⊥
+
 -- what makes the answer have a status, but for want of memory and for reads and writes that fail
 abbrev pub Cause : Request → List ℕ → Status → Type 0
 Cause (Run steps) bytes s = CauseOfSim bytes s
@@ -219,6 +265,8 @@ Cause (Simulate options) bytes s = CauseOfSim bytes s
 Cause Check bytes s = CauseOfCheck (take (most_read Check) bytes) s
 Cause (Generate options) bytes s = CauseOfGen s
 Cause Boxes bytes s = CauseOfBoxes bytes s
+Cause (Freeze count) bytes s = CauseOfSim bytes s
+Cause Thaw bytes s = CauseOfThaw bytes s
 
 -- What follows where a status is due in a mode that runs scripts to rest: Stalled may stand for Done.
 abbrev pub OrStalled : (Status → Type 0) → Status → Type 0
@@ -229,6 +277,7 @@ abbrev pub EachCause : Option Request → Option (List ℕ) → (Status → Type
 EachCause None left follows = Unit {0}
 EachCause (Some (Generate options)) left follows = (s : Status) → CauseOfGen s → follows s
 EachCause (Some Check) left follows = IfSome left (λ bytes. (s : Status) → Cause Check bytes s → follows s)
+EachCause (Some (Freeze count)) left follows = IfSome left (λ bytes. (s : Status) → CauseOfSim bytes s → follows s)
 EachCause (Some request) left follows =
     IfSome left (λ bytes. (s : Status) → Cause request bytes s → OrStalled follows s)
 

@@ -19,10 +19,8 @@ use Rattle.trace_text.specs.Steps.{steps_text}
 use Rattle.pico_words.specs.declared.words.Options.{Options}
 use Rattle.pico_cmd.specs.Stalled.{IsLeftAs}
 
--- The run of a script's picoprocesses that the schedule of this number takes, and the world that it ends in.
-pub record IsScheduledRun (script : Script) (seed : ℕ) (events : List Event) (last : World) : Type 0 where
-  -- what the schedule takes from the opening world is a run of the machine, to rest
-  pub schedule : Follows (opening_world script) (schedule_of seed (node_count script)) events last
+-- A run of a script's picoprocesses to rest, and the world that it ends in.
+pub record IsRunToRest (script : Script) (events : List Event) (last : World) : Type 0 where
   pub run : IsRunOf script events last
   pub rest : IsAtRest last
   -- at rest nothing is on its way, the leader holds nothing, and each node but node 1 has left, or was never born, or a
@@ -39,6 +37,11 @@ pub record IsScheduledRun (script : Script) (seed : ℕ) (events : List Event) (
       → Replays opening w.journal k → owners name w ≡ one_if (is_used_name (plain_kernel k) name)
   -- there are at most 32 events for each call
   pub short : length events ≤ 32 * calls_of script
+
+-- The run that the schedule of this number takes from the opening world.
+pub record IsScheduledRun (script : Script) (seed : ℕ) (events : List Event) (last : World) : Type 0 where
+  pub schedule : Follows (opening_world script) (schedule_of seed (node_count script)) events last
+  pub to_rest : IsRunToRest script events last
 
 -- the text of the events, where it is wanted
 abbrev pub steps_if : Bool → List Event → List ℕ

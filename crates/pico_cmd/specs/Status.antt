@@ -1,7 +1,7 @@
 -- Exit statuses.
 use Rattle.std.specs.Prelude.{ℕ}
 use Rattle.pico_cmd.specs.declared.status.Status.{Status}
-use Rattle.pico_cmd.specs.declared.status.Status.TheVariants.{Done, BadScript, Usage, Memory, ReadFault, WriteFault, Stalled, NotLegal}
+use Rattle.pico_cmd.specs.declared.status.Status.TheVariants.{Done, BadScript, Usage, Memory, ReadFault, WriteFault, Stalled, NotLegal, BadImage}
 
 abbrev pub code_of : Status → ℕ
 code_of Done = 0
@@ -12,3 +12,4 @@ code_of ReadFault = 4
 code_of WriteFault = 5
 code_of Stalled = 6
 code_of NotLegal = 7
+code_of BadImage = 8

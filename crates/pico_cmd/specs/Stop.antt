@@ -2,7 +2,7 @@
 use Rattle.std.specs.Prelude.{◌≡◌, ◌⊎◌, ◌≤◌, ◌<◌, ◌+◌, ℕ, List, length, take, drop, Option, Some, None}
 use Rattle.host_iface.specs.Faults.{HasRisen}
 use Rattle.pico_words.specs.declared.words.Request.{Request}
-use Rattle.pico_words.specs.declared.words.Request.TheVariants.{Run, Simulate, Check, Generate, Boxes}
+use Rattle.pico_words.specs.declared.words.Request.TheVariants.{Run, Simulate, Check, Generate, Boxes, Freeze, Thaw}
 use Rattle.pico_cmd.specs.declared.program.Stop.{Stop}
 use Rattle.pico_cmd.specs.declared.program.Stop.TheVariants.{Memory, ReadFault}
 
@@ -28,14 +28,16 @@ left_behind most None = None
 left_behind most (Some left) = Some (drop most left)
 
 -- How many bytes of the source are read at most: one more than the greatest script, which is the greatest input of
--- sandboxes, too, and for `check` one more than the
--- greatest script, the longest line `trace` and the greatest trace. For a generated script nothing is read.
+-- sandboxes, too, for `check` one more than the greatest script, the longest line `trace` and the greatest trace, and
+-- for `thaw` one more than the greatest image. For a generated script nothing is read.
 abbrev pub most_read : Request → ℕ
 most_read (Run steps) = 1048577
 most_read (Simulate options) = 1048577
 most_read Check = 68161538
 most_read (Generate options) = 0
 most_read Boxes = 1048577
+most_read (Freeze count) = 1048577
+most_read Thaw = 16777217
 
 -- whether the source is read
 abbrev pub Reads : Option Request → Type 0
@@ -44,4 +46,6 @@ Reads (Some (Simulate options)) = Unit {0}
 Reads (Some Check) = Unit {0}
 Reads (Some (Generate options)) = ⊥
 Reads (Some Boxes) = Unit {0}
+Reads (Some (Freeze count)) = Unit {0}
+Reads (Some Thaw) = Unit {0}
 Reads None = ⊥

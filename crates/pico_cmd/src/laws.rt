@@ -2,6 +2,7 @@
 ghost use Rattle.world_core.specs.Laws.{RestIsWhereNothingIsChosen};
 ghost use Rattle.rest_laws.specs.Laws.{NamesHaveOneOwner, NeverWaitsNeverStalls, NoneLivesUnlessStalled, RestIsQuiet, RestIsWhole, SomebodyWaitsWhereStalled, WhoLivesAtRestWaits};
 ghost use Rattle.run_laws.specs.Laws.{JournalsAreLegal, RunsAreShort};
+ghost use Rattle.pico_cmd.specs.Laws.{ThawOfFreezeIsSim};
 
 use rest_laws::{
     names_have_one_owner, never_waits_never_stalls, none_lives_unless_stalled, rest_is_quiet,
@@ -33,4 +34,12 @@ pub fn laws()
     names_have_one_owner();
     runs_are_short();
     rest_is_where_nothing_is_chosen();
+}
+
+/// What is frozen, after however many events, is thawed as its script is simulated: where `thaw` and `sim` answer, both
+/// answer the same.
+pub fn thawing_is_simulating()
+    ensures { ThawOfFreezeIsSim }
+{
+    laws();
 }

@@ -1,9 +1,10 @@
 //! The program `pico`: it runs a script of processes and writes a trace, which is one history of a single POSIX kernel;
-//! it judges a trace; and it runs generated scripts.
+//! it judges a trace; it runs generated scripts; and it freezes runs and thaws them.
 #![tactic(auto)]
 
 mod answer;
 mod boxed;
+mod frozen;
 mod judged;
 mod laws;
 mod program;
@@ -12,10 +13,12 @@ mod schedule;
 mod stalled;
 mod status;
 mod telling;
+mod thawed;
 mod threaded;
 
 pub use boxes_run::RestedList;
 use host_iface::{OpenGate, StdSink, StdSource};
+pub use laws::thawing_is_simulating;
 pub use program::{Ran, pico};
 pub use status::Status;
 use std::mem::ManuallyDrop;
@@ -69,7 +72,8 @@ fn reason(status: Status) -> Option<&'static str> {
         Status::Stalled => Some(
             "pico: stalled: each process that lives waits, and nothing lets one go on",
         ),
-        Status::Done | Status::BadScript | Status::Usage | Status::NotLegal => None,
+        Status::Done | Status::BadScript | Status::Usage | Status::NotLegal | Status::BadImage =>
+            None,
     }
 }
 

@@ -9,8 +9,10 @@ ghost use Rattle.pico_cmd.specs.Stop.{IsReadFault, IsStop, AreBytesUpTo, Reads, 
 
 use crate::answer::{Answer, answer_to};
 use crate::boxed::answer_to_boxes;
+use crate::frozen::answer_to_freeze;
 use crate::judged::answer_to_check;
 use crate::status::Status;
+use crate::thawed::answer_to_thaw;
 use crate::threaded::{answer_to_number, answer_to_run};
 use boxes_run::RestedList;
 use host_iface::{Gate, ReadStop, Sink, Source, read_all, write_all};
@@ -22,6 +24,9 @@ use std::thread::Threads;
 
 // The greatest script, and the greatest input of sandboxes, in bytes.
 const MAX_SCRIPT: usize = 1048576;
+
+// The greatest image.
+const MAX_IMAGE: usize = 16777216;
 
 // The greatest script, the longest line `trace` with its line feed, and the greatest trace.
 const MAX_CHECKED: usize = 68161537;
@@ -58,7 +63,7 @@ fn usage(alloc: Global) -> Result<Answer, Memory>
         status: Status::Usage,
         text: Bytes::from_slice(
             alloc,
-            b"usage: pico run|sim|check|gen|boxes [--seed N] [--steps]\n",
+            b"usage: pico run|sim|check|gen|boxes|freeze|thaw [--seed N] [--steps]\n",
         )?,
         rested: RestedList::new(alloc),
     })
@@ -148,6 +153,34 @@ fn run_sandboxes<R: Threads + Wait + Sync, S: Source, G: Gate>(
     Ok(answer_to_boxes(rt, alloc, bytes.as_slice(), gate)?)
 }
 
+// The answer to a script that is frozen after so many events.
+fn freeze_script<S: Source>(alloc: Global, count: u32, source: &mut S) -> Result<Answer, Stop>
+    ensures answer { IfOk result
+        (λ answer. AnswersTold (Request.Freeze count) (S.left source.old) answer.status answer.text answer.rested) }
+    ensures causes { EachCause (Some (Request.Freeze count)) (S.left source.old)
+        (λ s. IfOk result (λ answer. answer.status ≡ s)) }
+    ensures rest { OnOk result (S.left source.new ≡ left_behind 1048577 (S.left source.old)) }
+    ensures calm { OnOk result (S.faults source.new ≡ S.faults source.old) }
+    ensures stop { IfErr result (IsStop (S.faults source.old) (S.faults source.new)) }
+{
+    let bytes = bytes_up_to(alloc, source, MAX_SCRIPT)?;
+    Ok(answer_to_freeze(alloc, bytes.as_slice(), count)?)
+}
+
+// The answer to an image.
+fn thaw_image<S: Source>(alloc: Global, source: &mut S) -> Result<Answer, Stop>
+    ensures answer { IfOk result
+        (λ answer. AnswersTold Request.Thaw (S.left source.old) answer.status answer.text answer.rested) }
+    ensures causes { EachCause (Some Request.Thaw) (S.left source.old)
+        (λ s. IfOk result (λ answer. answer.status ≡ s)) }
+    ensures rest { OnOk result (S.left source.new ≡ left_behind 16777217 (S.left source.old)) }
+    ensures calm { OnOk result (S.faults source.new ≡ S.faults source.old) }
+    ensures stop { IfErr result (IsStop (S.faults source.old) (S.faults source.new)) }
+{
+    let bytes = bytes_up_to(alloc, source, MAX_IMAGE)?;
+    Ok(answer_to_thaw(alloc, bytes.as_slice())?)
+}
+
 // The answer to a generated script's number.
 fn totals<R: Threads + Wait + Sync, G: Gate>(
     rt: &R,
@@ -188,6 +221,8 @@ fn answer_for<R: Threads + Wait + Sync, S: Source, G: Gate>(
         Request::Check => check(alloc, source),
         Request::Generate(options) => Ok(totals(rt, alloc, options, gate)?),
         Request::Boxes => run_sandboxes(rt, alloc, source, gate),
+        Request::Freeze { count } => freeze_script(alloc, count, source),
+        Request::Thaw => thaw_image(alloc, source),
     }
 }
 
@@ -285,6 +320,10 @@ fn write_answer<K: Sink>(sink: &mut K, answer: Answer) -> Ran
 ///   line of its trace is written, and with `--steps` the events behind it. Nothing is read.
 /// - `boxes`: the source is up to 8 sandboxes, each a script of its own. All run at once with threads, as in `run`, and
 ///   the gate counts their nodes in order. For each its name and its trace are written.
+/// - `freeze`, with `--seed N` if wanted: the source is a script. It runs as in `sim` by schedule 0, for N events or to
+///   rest, and an image is written: the script and these events. Without a number there are none.
+/// - `thaw`: the source is an image. Its script runs by the image's events, and goes on by schedule 0 behind the node
+///   of the last of them, to rest. The trace is written.
 ///
 /// Where processes of a script wait for good, the run comes to rest all the same: then all is written as else, and the
 /// status is Stalled. No process of a generated script waits.
@@ -301,8 +340,9 @@ pub fn pico<R: Threads + Wait + Sync, S: Source, K: Sink, G: Gate>(
 ) -> Ran
     // What is written with each status: the trace of a run of the script's processes, which is one history of a single
     // POSIX kernel, or that a trace is legal, or the totals of a generated script's run, or such a trace for each of
-    // several sandboxes; the first fault of the script or of the sandboxes; the trace's first fault; or the usage line.
-    // Nothing is written where memory or the source failed.
+    // several sandboxes, or an image, or the trace of the run that an image begins; the first fault of the script, of
+    // the sandboxes, of the trace or of the image; or the usage line. Nothing is written where memory or the source
+    // failed.
     ensures done { result.status ≡ Status.Done →
         Wrote (request_in (map string_bytes words.now)) (S.left source.old) Status.Done
         result.rested (K.taken sink.old) (K.taken sink.new) }
@@ -315,6 +355,9 @@ pub fn pico<R: Threads + Wait + Sync, S: Source, K: Sink, G: Gate>(
         result.rested (K.taken sink.old) (K.taken sink.new) }
     ensures not_legal { result.status ≡ Status.NotLegal →
         Wrote (request_in (map string_bytes words.now)) (S.left source.old) Status.NotLegal
+        result.rested (K.taken sink.old) (K.taken sink.new) }
+    ensures bad_image { result.status ≡ Status.BadImage →
+        Wrote (request_in (map string_bytes words.now)) (S.left source.old) Status.BadImage
         result.rested (K.taken sink.old) (K.taken sink.new) }
     ensures usage { result.status ≡ Status.Usage →
         Wrote (request_in (map string_bytes words.now)) (S.left source.old) Status.Usage

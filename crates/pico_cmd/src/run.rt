@@ -21,7 +21,7 @@ pub struct Run {
 }
 
 // How many nodes a script has.
-fn nodes_of(script: &Script) -> Node
+pub fn nodes_of(script: &Script) -> Node
     requires { IsSoundScript script.now }
     ensures { result ≡ node_count script.now }
 {
@@ -47,7 +47,7 @@ fn keep(events: &mut Vec<Event>, steps: bool, event: &Event) -> Result<(), Memor
 }
 
 // One event more. A run of more events than a number of eight bytes counts isn't carried out.
-fn one_more(count: u64) -> Result<u64, Memory>
+pub fn one_more(count: u64) -> Result<u64, Memory>
     ensures { IfOk result (λ more. more ≡ count + 1) }
 {
     count.checked_add(1).ok_or(Memory)

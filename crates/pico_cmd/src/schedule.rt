@@ -25,7 +25,7 @@ fn drawn(last: u32) -> u32
 }
 
 // The node whose event it is.
-fn node_of(event: &Event) -> Node
+pub fn node_of(event: &Event) -> Node
     ensures { result ≡ machine.node_of event.now }
 {
     match event {

@@ -21,10 +21,12 @@ pub enum Status {
     Stalled,
     /// The trace isn't that of a legal history; its first fault is written.
     NotLegal,
+    /// The image has a fault behind its script, which is written.
+    BadImage,
 }
 
 impl Status {
-    /// The exit status of the process: their places from 0 for Done to 7 for NotLegal.
+    /// The exit status of the process: their places from 0 for Done to 8 for BadImage.
     pub fn code(self) -> u8
         ensures { result ≡ code_of self }
     {
@@ -37,6 +39,7 @@ impl Status {
             Status::WriteFault => 5,
             Status::Stalled => 6,
             Status::NotLegal => 7,
+            Status::BadImage => 8,
         }
     }
 }

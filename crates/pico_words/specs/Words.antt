@@ -10,7 +10,7 @@ use Rattle.clap.specs.declared.builder.action.ArgAction.TheVariants.{SetTrue}
 use Rattle.text_fields.specs.Fields.{number_at}
 use Rattle.pico_words.specs.declared.words.Options.{Options}
 use Rattle.pico_words.specs.declared.words.Request.{Request}
-use Rattle.pico_words.specs.declared.words.Request.TheVariants.{Run, Simulate, Check, Generate, Boxes}
+use Rattle.pico_words.specs.declared.words.Request.TheVariants.{Run, Simulate, Check, Generate, Boxes, Freeze, Thaw}
 
 -- ---- the command
 
@@ -59,6 +59,13 @@ options_with steps seed = record { seed = seed; steps = steps }
 abbrev pub options_of : Option (List ℕ) → Bool → Option Options
 options_of seed steps = option_map (options_with steps) (number_of seed)
 
+-- of the modes that have to do with images `freeze` has `--seed`, and `thaw` no option
+unfoldable pub meant_of_image : Option (List ℕ) → Bool → List ℕ → Option Request
+meant_of_image seed steps mode =
+    if bytes_eq mode (codes "freeze") && not steps
+    then option_map Freeze (number_of seed)
+    else if bytes_eq mode (codes "thaw") && not (is_some seed || steps) then Some Thaw else None
+
 -- each option goes with the mode: `run` has `--steps`, `sim` and `gen` have both, and `check` and `boxes` none
 unfoldable pub meant : Option (List ℕ) → Bool → List ℕ → Option Request
 meant seed steps mode =
@@ -73,7 +80,10 @@ meant seed steps mode =
     else
     if bytes_eq mode (codes "check") && not (is_some seed || steps)
     then Some Check
-    else if bytes_eq mode (codes "boxes") && not (is_some seed || steps) then Some Boxes else None
+    else
+    if bytes_eq mode (codes "boxes") && not (is_some seed || steps)
+    then Some Boxes
+    else meant_of_image seed steps mode
 
 -- ---- what the words give
 

@@ -34,6 +34,10 @@ pub enum Request {
     Generate(Options),
     /// `boxes`: the traces of several sandboxes' runs by threads.
     Boxes,
+    /// `freeze`: the image of a script after so many events of schedule 0.
+    Freeze { count: u32 },
+    /// `thaw`: the trace of the run that begins as an image says, and goes on by schedule 0.
+    Thaw,
 }
 
 // N, in its one spelling; 0 without the word.
@@ -57,6 +61,21 @@ fn options_of(seed: Option<&str>, steps: bool) -> Option<Options>
     Some(Options { seed, steps })
 }
 
+// The same of the modes that have to do with images.
+#[tactic(auto, unfolding(crate::specs::Words::meant_of_image))]
+fn image_request_meant(seed: Option<&str>, steps: bool, mode: &str) -> Option<Request>
+    ensures { result ≡ spec.meant_of_image (option_map (λ s. s.now) seed.entry) steps mode.now }
+{
+    if mode == "freeze" && !steps {
+        let count = number_of(seed)?;
+        Some(Request::Freeze { count })
+    } else if mode == "thaw" && !(seed.is_some() || steps) {
+        Some(Request::Thaw)
+    } else {
+        None
+    }
+}
+
 // What the words for MODE and N, and whether `--steps` is there, ask for.
 #[tactic(auto, unfolding(crate::specs::Words::meant))]
 fn request_meant(seed: Option<&str>, steps: bool, mode: &str) -> Option<Request>
@@ -75,7 +94,7 @@ fn request_meant(seed: Option<&str>, steps: bool, mode: &str) -> Option<Request>
     } else if mode == "boxes" && !(seed.is_some() || steps) {
         Some(Request::Boxes)
     } else {
-        None
+        image_request_meant(seed, steps, mode)
     }
 }
 
@@ -141,8 +160,8 @@ fn found(matches: &ArgMatches) -> Option<Request>
 
 /// What the words ask for; none where they aren't in order. They are in order where `clap` takes them as those of the
 /// command `pico MODE [--seed N] [--steps]`, N is a number from 0 to 2147483646 without leading zeros, and each option
-/// goes with the mode: `--steps` with `run`, both with `sim` and `gen`, and none with `check`
-/// and `boxes`.
+/// goes with the mode: `--steps` with `run`, both with `sim` and `gen`, `--seed` with `freeze`,
+/// and none with `check`, `boxes` and `thaw`.
 #[tactic(auto, unfolding(crate::specs::Words::request_in))]
 pub fn request_of(alloc: Global, words: &[String]) -> Result<Option<Request>, Memory>
     ensures { IfOk result (λ request. request ≡ spec.request_in (map string_bytes words.now)) }

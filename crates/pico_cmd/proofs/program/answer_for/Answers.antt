@@ -33,3 +33,15 @@ pub returns-in_ok-totals-in-Generate-clause-causes : goal.returns-in_ok-totals-i
 returns-in_ok-totals-in-Generate-clause-causes g c =
     rw c.in-Generate.is
     (c.in_ok-totals-in-Generate.ensures.causes (g.S.Source.left c.args.source.now))
+
+pub returns-in-Freeze-clause-read : goal.returns-in-Freeze-clause-read
+returns-in-Freeze-clause-read g c = rw c.in-Freeze.is (read_told c.freeze_script.result)
+
+pub returns-in-Freeze-clause-untouched : goal.returns-in-Freeze-clause-untouched
+returns-in-Freeze-clause-untouched g c unread = absurd (unread (rw c.in-Freeze.is tt))
+
+pub returns-in-Thaw-clause-read : goal.returns-in-Thaw-clause-read
+returns-in-Thaw-clause-read g c = rw c.in-Thaw.is (read_told c.thaw_image.result)
+
+pub returns-in-Thaw-clause-untouched : goal.returns-in-Thaw-clause-untouched
+returns-in-Thaw-clause-untouched g c unread = absurd (unread (rw c.in-Thaw.is tt))

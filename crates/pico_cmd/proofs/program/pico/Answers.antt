@@ -25,6 +25,11 @@ returns-in-Ok-clause-not_legal g c e =
     wrote _ _ _ _ _ _ _ _ _ _ _ c.in-Ok.ensures.answer c.write_answer.ensures.written c.write_answer.ensures.rested e
     (λ n. cc)
 
+pub returns-in-Ok-clause-bad_image : goal.returns-in-Ok-clause-bad_image
+returns-in-Ok-clause-bad_image g c e =
+    wrote _ _ _ _ _ _ _ _ _ _ _ c.in-Ok.ensures.answer c.write_answer.ensures.written c.write_answer.ensures.rested e
+    (λ n. cc)
+
 pub returns-in-Ok-clause-usage : goal.returns-in-Ok-clause-usage
 returns-in-Ok-clause-usage g c e =
     wrote _ _ _ _ _ _ _ _ _ _ _ c.in-Ok.ensures.answer c.write_answer.ensures.written c.write_answer.ensures.rested e
