@@ -3,7 +3,14 @@ from __future__ import annotations
 
 MAX_SEED = 2147483646
 # the modes that read standard input, and the most that each reads
-READS = {"run": 1048576, "sim": 1048576, "check": 68161537, "boxes": 1048576}
+READS = {
+    "run": 1048576,
+    "sim": 1048576,
+    "check": 68161537,
+    "boxes": 1048576,
+    "freeze": 1048576,
+    "thaw": 16777216,
+}
 # the options that go with each mode
 OPTIONS = {
     "run": {"--steps"},
@@ -11,6 +18,8 @@ OPTIONS = {
     "check": set(),
     "gen": {"--seed", "--steps"},
     "boxes": set(),
+    "freeze": {"--seed"},
+    "thaw": set(),
 }
 
 

@@ -4,7 +4,7 @@ What the program writes and its exit status stay as they are. Besides it takes a
 answers --help and --version, and says on standard error what was wrong with what the program refused: what is said is
 that of a program of its own, `pico_explain`.
 
-Exit status: the program's own (0 to 7, see README.md), or 70 where there is no program to run.
+Exit status: the program's own (0 to 8, see README.md), or 70 where there is no program to run.
 """
 from __future__ import annotations
 
@@ -24,7 +24,7 @@ sys.path.insert(0, TOOLS)
 import programs  # noqa: E402
 from given import READS, is_in_order, mode_of, with_file  # noqa: E402
 
-BAD_SCRIPT, USAGE, READ_FAULT, NOT_LEGAL, NO_PROGRAM = 1, 2, 4, 7, 70
+BAD_SCRIPT, USAGE, READ_FAULT, NOT_LEGAL, BAD_IMAGE, NO_PROGRAM = 1, 2, 4, 7, 8, 70
 # the script ./pico hands standard input on by this number
 GIVEN = 3
 HELP = """\
@@ -37,9 +37,13 @@ pico runs a script of processes and writes a trace: every call in one order, its
   ./pico gen [--seed N] [--steps]           runs the generated script of number N with threads, and writes the totals
   ./pico boxes [FILE]                       runs the scripts of several sandboxes at once, each as `run` does, and writes
                                             for each its name and its trace
+  ./pico freeze [--seed N] [FILE]           runs a script for N events, each node in its turn, and writes an image: the
+                                            script and these events
+  ./pico thaw [FILE]                        takes an image up again, to its end, and writes the trace, as `sim` does
 
   FILE       what is read; standard input where it is left out
-  --seed N   the number of the schedule or of the generated script, from 0 to 2147483646; 0 where it is left out
+  --seed N   the number of the schedule, of the generated script or of events, from 0 to 2147483646; 0 where it is left
+             out
   --steps    the events of the run are written behind the rest
 
   ./pico --prove      proves the program and all that it stands on, and builds it: once, see README.md for what it costs
@@ -200,7 +204,7 @@ def run_program(program: str, given: list[str]) -> int:
     elif mode in READS and is_in_order(words):
         source.take()
     status = run([program, *words], source.source)
-    if status in (BAD_SCRIPT, USAGE, NOT_LEGAL):
+    if status in (BAD_SCRIPT, USAGE, NOT_LEGAL, BAD_IMAGE):
         try:
             explain(program, words, source, status)
         except Exception as error:

@@ -6,6 +6,7 @@ ghost use Rattle.explain.specs.Refusal.{begins_with, is_refusal};
 
 use explain_base::{Finding, Page, Text, text_of};
 use explain_boxes::{explain_boxes, script_alone};
+use explain_image::explain_image;
 use explain_script::explain_script;
 use explain_trace::{explain_trace, trace_line};
 use explain_words::{Given, explain_words};
@@ -55,7 +56,7 @@ fn script_in(bytes: &[u8]) -> (&[u8], bool) {
     }
 }
 
-// What is told of a fault of a script, which is told behind `fault: line `.
+// What is told of a fault of a script or of an image, which is told behind `fault: line `.
 fn of_script<'a>(
     alloc: Global,
     told: &'a [u8],
@@ -66,6 +67,9 @@ fn of_script<'a>(
         let what = Text::plain("the script has a fault");
         return Ok(Finding::without_line(alloc, what, Text::none(), None, Page::Faults));
     };
+    if asks_for(words, "thaw") {
+        return explain_image(alloc, bytes, number, name);
+    }
     let (script, ends_at_trace) = if asks_for(words, "check") {
         script_in(bytes)
     } else {

@@ -1,7 +1,7 @@
 //! The modes, and the words that the usage line names.
 
 /// The names of the modes.
-pub static MODES: [&str; 5] = ["run", "sim", "check", "gen", "boxes"];
+pub static MODES: [&str; 7] = ["run", "sim", "check", "gen", "boxes", "freeze", "thaw"];
 
 /// All options.
 pub static OPTIONS: [&str; 6] = ["--seed", "--steps", "--help", "-h", "--version", "--prove"];
@@ -20,7 +20,7 @@ pub struct Mode {
     pub form: &'static str,
 }
 
-static ALL: [Mode; 5] = [
+static ALL: [Mode; 7] = [
     Mode {
         name: "run",
         asked: "./pico run ",
@@ -70,6 +70,26 @@ static ALL: [Mode; 5] = [
         has_steps: false,
         unlike: "`boxes` has no options",
         form: "./pico boxes [FILE]",
+    },
+    Mode {
+        name: "freeze",
+        asked: "./pico freeze ",
+        alone: "one mode: freeze",
+        reads: true,
+        has_seed: true,
+        has_steps: false,
+        unlike: "`freeze` has no `--steps`: an image has its events",
+        form: "./pico freeze [--seed N] [FILE]",
+    },
+    Mode {
+        name: "thaw",
+        asked: "./pico thaw ",
+        alone: "one mode: thaw",
+        reads: true,
+        has_seed: false,
+        has_steps: false,
+        unlike: "`thaw` has no options",
+        form: "./pico thaw [FILE]",
     },
 ];
 
