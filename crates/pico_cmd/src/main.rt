@@ -8,6 +8,7 @@ mod frozen;
 mod judged;
 mod laws;
 mod program;
+mod queues;
 mod run;
 mod schedule;
 mod stalled;

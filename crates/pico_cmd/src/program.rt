@@ -11,6 +11,7 @@ use crate::answer::{Answer, answer_to};
 use crate::boxed::answer_to_boxes;
 use crate::frozen::answer_to_freeze;
 use crate::judged::answer_to_check;
+use crate::queues::answer_to_queues;
 use crate::status::Status;
 use crate::thawed::answer_to_thaw;
 use crate::threaded::{answer_to_number, answer_to_run};
@@ -63,7 +64,7 @@ fn usage(alloc: Global) -> Result<Answer, Memory>
         status: Status::Usage,
         text: Bytes::from_slice(
             alloc,
-            b"usage: pico run|sim|check|gen|boxes|freeze|thaw [--seed N] [--steps]\n",
+            b"usage: pico run|sim|check|gen|mq|boxes|freeze|thaw [--seed N] [--steps]\n",
         )?,
         rested: RestedList::new(alloc),
     })
@@ -181,6 +182,19 @@ fn thaw_image<S: Source>(alloc: Global, source: &mut S) -> Result<Answer, Stop>
     Ok(answer_to_thaw(alloc, bytes.as_slice())?)
 }
 
+// The answer to a script of POSIX message queues.
+fn run_queues<R: Threads + Wait + Sync, S: Source, G: Gate>(
+    rt: &R,
+    alloc: Global,
+    steps: bool,
+    source: &mut S,
+    gate: &G,
+) -> Result<Answer, Stop>
+{
+    let bytes = bytes_up_to(alloc, source, MAX_SCRIPT)?;
+    Ok(answer_to_queues(rt, alloc, bytes.as_slice(), steps, gate)?)
+}
+
 // The answer to a generated script's number.
 fn totals<R: Threads + Wait + Sync, G: Gate>(
     rt: &R,
@@ -223,6 +237,7 @@ fn answer_for<R: Threads + Wait + Sync, S: Source, G: Gate>(
         Request::Boxes => run_sandboxes(rt, alloc, source, gate),
         Request::Freeze { count } => freeze_script(alloc, count, source),
         Request::Thaw => thaw_image(alloc, source),
+        Request::Queues { steps } => run_queues(rt, alloc, steps, source, gate),
     }
 }
 

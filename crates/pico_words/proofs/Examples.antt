@@ -3,7 +3,7 @@ use Rattle.std.proofs.Common.{◌≡◌, true, false, List, [], ◌∷◌, Optio
 use Rattle.std.specs.Prelude.{ℕ, codes}
 use Rattle.clap.proofs.OnLiterals.{clap_on_literals}
 use Rattle.text_fields.specs.Fields.{digit_at, digits_front, number_at}
-use Rattle.pico_words.specs.declared.words.Request.TheVariants.{Run, Simulate, Check, Generate, Boxes, Freeze, Thaw}
+use Rattle.pico_words.specs.declared.words.Request.TheVariants.{Run, Simulate, Check, Generate, Boxes, Freeze, Thaw, Queues}
 use Rattle.pico_words.specs.Words.{request_in, is_taken, meant, meant_of_image, number_of}
 
 -- options stand before the mode and behind it, and `--seed=N` is `--seed N`
@@ -43,6 +43,15 @@ run_with_steps = refl
 run_with_a_number : request_in (codes "run" ∷ codes "--seed" ∷ codes "7" ∷ []) ≡ None
 unfolding clap_on_literals request_in is_taken meant meant_of_image number_of digit_at digits_front number_at
 run_with_a_number = refl
+
+-- so has `mq`
+mq_with_steps : request_in (codes "mq" ∷ codes "--steps" ∷ []) ≡ Some (Queues true)
+unfolding clap_on_literals request_in is_taken meant meant_of_image number_of digit_at digits_front number_at
+mq_with_steps = refl
+
+mq_with_a_number : request_in (codes "mq" ∷ codes "--seed" ∷ codes "7" ∷ []) ≡ None
+unfolding clap_on_literals request_in is_taken meant meant_of_image number_of digit_at digits_front number_at
+mq_with_a_number = refl
 
 -- no option is given twice, and a number has no leading zero
 steps_twice : request_in (codes "sim" ∷ codes "--steps" ∷ codes "--steps" ∷ []) ≡ None

@@ -10,7 +10,7 @@ use Rattle.clap.specs.declared.builder.action.ArgAction.TheVariants.{SetTrue}
 use Rattle.text_fields.specs.Fields.{number_at}
 use Rattle.pico_words.specs.declared.words.Options.{Options}
 use Rattle.pico_words.specs.declared.words.Request.{Request}
-use Rattle.pico_words.specs.declared.words.Request.TheVariants.{Run, Simulate, Check, Generate, Boxes, Freeze, Thaw}
+use Rattle.pico_words.specs.declared.words.Request.TheVariants.{Run, Simulate, Check, Generate, Boxes, Freeze, Thaw, Queues}
 
 -- ---- the command
 
@@ -66,7 +66,8 @@ meant_of_image seed steps mode =
     then option_map Freeze (number_of seed)
     else if bytes_eq mode (codes "thaw") && not (is_some seed || steps) then Some Thaw else None
 
--- each option goes with the mode: `run` has `--steps`, `sim` and `gen` have both, and `check` and `boxes` none
+-- each option goes with the mode: `run` and `mq` have `--steps`, `sim` and `gen` have both, and `check` and `boxes`
+-- none
 unfoldable pub meant : Option (List ℕ) → Bool → List ℕ → Option Request
 meant seed steps mode =
     if bytes_eq mode (codes "run") && not (is_some seed)
@@ -83,6 +84,9 @@ meant seed steps mode =
     else
     if bytes_eq mode (codes "boxes") && not (is_some seed || steps)
     then Some Boxes
+    else
+    if bytes_eq mode (codes "mq") && not (is_some seed)
+    then Some (Queues steps)
     else meant_of_image seed steps mode
 
 -- ---- what the words give

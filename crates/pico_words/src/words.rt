@@ -38,6 +38,8 @@ pub enum Request {
     Freeze { count: u32 },
     /// `thaw`: the trace of the run that begins as an image says, and goes on by schedule 0.
     Thaw,
+    /// `mq`: the trace of a run by threads of a script of POSIX message queues, and its events where `steps` says so.
+    Queues { steps: bool },
 }
 
 // N, in its one spelling; 0 without the word.
@@ -93,6 +95,8 @@ fn request_meant(seed: Option<&str>, steps: bool, mode: &str) -> Option<Request>
         Some(Request::Check)
     } else if mode == "boxes" && !(seed.is_some() || steps) {
         Some(Request::Boxes)
+    } else if mode == "mq" && seed.is_none() {
+        Some(Request::Queues { steps })
     } else {
         image_request_meant(seed, steps, mode)
     }
@@ -160,7 +164,7 @@ fn found(matches: &ArgMatches) -> Option<Request>
 
 /// What the words ask for; none where they aren't in order. They are in order where `clap` takes them as those of the
 /// command `pico MODE [--seed N] [--steps]`, N is a number from 0 to 2147483646 without leading zeros, and each option
-/// goes with the mode: `--steps` with `run`, both with `sim` and `gen`, `--seed` with `freeze`,
+/// goes with the mode: `--steps` with `run` and `mq`, both with `sim` and `gen`, `--seed` with `freeze`,
 /// and none with `check`, `boxes` and `thaw`.
 #[tactic(auto, unfolding(crate::specs::Words::request_in))]
 pub fn request_of(alloc: Global, words: &[String]) -> Result<Option<Request>, Memory>

@@ -1,0 +1,62 @@
+//! The answer to a script of POSIX message queues.
+
+use crate::answer::{Answer, text_of_fault};
+use crate::laws::laws;
+use crate::stalled::{is_left_stalled, status_left};
+use crate::status::Status;
+use crate::threaded::with_events;
+use boxes_run::RestedList;
+use host_iface::Gate;
+use pico_base::Memory;
+use pico_run::run;
+use posix_mq::{MqScript, mq_trace, read_mq};
+use script_reader::ScriptStop;
+use std::alloc::Global;
+use std::sync::Wait;
+use std::thread::Threads;
+
+// The answer of the run with threads of the script of System V that runs a given one.
+fn run_given<R: Threads + Wait + Sync, G: Gate>(
+    rt: &R,
+    alloc: Global,
+    script: MqScript,
+    steps: bool,
+    gate: &G,
+) -> Result<Answer, Memory>
+{
+    laws();
+    let MqScript { script, given } = script;
+    let rested = run(rt, alloc, script, gate)?;
+    let world = &rested.world;
+    let told = mq_trace(alloc, &given, world.script(), world.journal().as_slice())?;
+    let text = with_events(alloc, told, steps, &rested)?;
+    let status = status_left(is_left_stalled(&rested));
+    let mut handed = RestedList::new(alloc);
+    handed.push(rested)?;
+    Ok(Answer {
+        status,
+        text,
+        rested: handed,
+    })
+}
+
+/// The answer to these bytes: the trace of the run with threads of the script of POSIX message queues that they are, and
+/// its events where they are wanted, or their first fault.
+pub fn answer_to_queues<R: Threads + Wait + Sync, G: Gate>(
+    rt: &R,
+    alloc: Global,
+    bytes: &[u8],
+    steps: bool,
+    gate: &G,
+) -> Result<Answer, Memory>
+{
+    match read_mq(alloc, bytes) {
+        Ok(script) => run_given(rt, alloc, script, steps, gate),
+        Err(ScriptStop::At { line, fault }) => Ok(Answer {
+            status: Status::BadScript,
+            text: text_of_fault(alloc, line, fault)?,
+            rested: RestedList::new(alloc),
+        }),
+        Err(ScriptStop::Memory) => Err(Memory),
+    }
+}

@@ -1,0 +1,29 @@
+//! The errors of calls on POSIX message queues.
+
+ghost use Rattle.std.specs.Prelude.{◌≡◌};
+ghost use Rattle.posix_mq.specs.Text.{error_name, error_number};
+
+use pico_base::Errno;
+
+/// The error of a refused call: one that other calls have too, or one of message queues alone.
+#[derive(Clone, Copy, Debug, PartialEq, Eq)]
+pub enum MqErrno {
+    Base(Errno),
+    /// There is no queue of this number.
+    Ebadf,
+    /// The text is longer than a message may be, or a receive has less room than the longest message needs.
+    Emsgsize,
+}
+
+impl MqErrno {
+    /// The error's number in this profile.
+    pub fn number(self) -> u32
+        ensures { result ≡ error_number self }
+    {
+        match self {
+            MqErrno::Base(errno) => errno as u32,
+            MqErrno::Ebadf => 13,
+            MqErrno::Emsgsize => 14,
+        }
+    }
+}

@@ -1,0 +1,16 @@
+//! POSIX message queues over System V's: a script of theirs is read as a script of System V, and the history of its run
+//! is told as one of theirs.
+#![tactic(auto)]
+
+mod errno;
+mod follow;
+mod read;
+mod show;
+mod stand_in;
+mod system_v;
+mod text;
+mod words;
+
+pub use errno::MqErrno;
+pub use read::{MqScript, read_mq};
+pub use text::mq_trace;
