@@ -13,7 +13,12 @@ pub(crate) struct Follower {
 }
 
 /// The call is answered, or parks.
-fn goes_on(script: &Script, caller: &mut Caller, call: Call, own: &Option<Reply>) -> Result<(), Memory> {
+fn goes_on(
+    script: &Script,
+    caller: &mut Caller,
+    call: Call,
+    own: &Option<Reply>,
+) -> Result<(), Memory> {
     caller.start(call);
     match own {
         Some(reply) => caller.answered(script, reply),

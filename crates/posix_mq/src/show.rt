@@ -1,13 +1,18 @@
 //! The text of an entry as one of POSIX message queues.
 
-use crate::system_v::{Unfit, turned};
+use crate::system_v::{Refusal, turned};
 use pico_base::{Bytes, Call, Entry, Errno, Id, Memory, Reply, Script};
 use std::alloc::Global;
 use std::slice;
 use trace_text::{push, push_byte, push_entries, push_number, push_reply};
 
 /// A priority, and a text.
-fn push_message(alloc: Global, out: &mut Vec<u8>, priority: i32, text: &Bytes) -> Result<(), Memory> {
+fn push_message(
+    alloc: Global,
+    out: &mut Vec<u8>,
+    priority: i32,
+    text: &Bytes,
+) -> Result<(), Memory> {
     let message = Reply::Message {
         class: priority,
         text: text.try_copy(alloc)?,
@@ -118,14 +123,14 @@ pub(crate) fn push_refused(
     out: &mut Vec<u8>,
     entry: &Entry,
     given: &Call,
-    why: Unfit,
+    why: Refusal,
 ) -> Result<(), Memory> {
     push_maker(out, entry)?;
     push_given_call(alloc, out, given)?;
     push(out, b" = ")?;
     match why {
-        Unfit::Priority => push(out, b"EINVAL")?,
-        Unfit::Size => push(out, b"EMSGSIZE")?,
+        Refusal::Priority => push(out, b"EINVAL")?,
+        Refusal::Size => push(out, b"EMSGSIZE")?,
     }
     push_node(out, entry)
 }

@@ -1,6 +1,6 @@
 //! A text of System V's calls that stands for one of POSIX message queues: line for line it has the same faults.
 
-use crate::words::{Spoken, front_len, is_small, may_call, name_number, put_words, spoken};
+use crate::words::{Spoken, call_named, front_len, is_small, may_call, name_number, put_words};
 use pico_base::Memory;
 use script_reader::{MAX_LINE, next_line};
 use std::alloc::Global;
@@ -99,8 +99,8 @@ fn push_call(out: &mut Vec<u8>, line: &[u8], words: &[&[u8]]) -> Result<bool, Me
         push(out, line)?;
         return Ok(false);
     };
-    let spoken = spoken(name);
-    match spoken {
+    let named = call_named(name);
+    match named {
         Spoken::Other => push(out, line)?,
         Spoken::SystemV => push(out, UNKNOWN)?,
         _ if !line.is_ascii() => push(out, BAD)?,
@@ -109,7 +109,7 @@ fn push_call(out: &mut Vec<u8>, line: &[u8], words: &[&[u8]]) -> Result<bool, Me
         Spoken::Receive => push_receive(out, &words[..front], behind)?,
         Spoken::GetAttr => push_get_attr(out, &words[..front], behind)?,
     }
-    Ok(matches!(spoken, Spoken::GetAttr))
+    Ok(matches!(named, Spoken::GetAttr))
 }
 
 impl StandIn {

@@ -11,7 +11,7 @@ const MESSAGE_BYTES: usize = 16;
 
 /// Why a call is refused by its arguments alone.
 #[derive(Clone, Copy)]
-pub(crate) enum Unfit {
+pub(crate) enum Refusal {
     /// The priority is too great: EINVAL.
     Priority,
     /// The text is too long, or the size too small: EMSGSIZE.
@@ -19,11 +19,11 @@ pub(crate) enum Unfit {
 }
 
 /// Why a call of a given script is refused by its arguments alone, where it is.
-pub(crate) fn unfit(call: &Call) -> Option<Unfit> {
+pub(crate) fn unfit(call: &Call) -> Option<Refusal> {
     match call {
-        Call::MsgSnd { class, .. } if *class > MAX_PRIORITY => Some(Unfit::Priority),
-        Call::MsgSnd { text, .. } if text.len() > MESSAGE_BYTES => Some(Unfit::Size),
-        Call::MsgRcv { size, .. } if (*size as usize) < MESSAGE_BYTES => Some(Unfit::Size),
+        Call::MsgSnd { class, .. } if *class > MAX_PRIORITY => Some(Refusal::Priority),
+        Call::MsgSnd { text, .. } if text.len() > MESSAGE_BYTES => Some(Refusal::Size),
+        Call::MsgRcv { size, .. } if (*size as usize) < MESSAGE_BYTES => Some(Refusal::Size),
         _ => None,
     }
 }
@@ -75,7 +75,11 @@ fn line_for(alloc: Global, line: &Line) -> Result<Line, Memory> {
     Ok(Line {
         set: line.set,
         tries: line.tries,
-        from: if unfit(&line.call).is_some() { None } else { line.from },
+        from: if unfit(&line.call).is_some() {
+            None
+        } else {
+            line.from
+        },
         call: call_for(alloc, &line.call)?,
     })
 }

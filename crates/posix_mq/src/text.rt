@@ -2,14 +2,18 @@
 
 use crate::follow::Follower;
 use crate::show::{push_entry, push_refused};
-use crate::system_v::{Unfit, unfit};
+use crate::system_v::{Refusal, unfit};
 use pico_base::{Bytes, Call, Entry, Errno, Memory, Outcome, Reply, Script};
 use std::alloc::Global;
 use std::slice;
 use trace_text::{Tally, push_tally};
 
 /// The given call that an entry stands for, where its arguments refuse it.
-fn refused(follower: &Follower, given: &Script, entry: &Entry) -> Result<Option<(Call, Unfit)>, Memory> {
+fn refused(
+    follower: &Follower,
+    given: &Script,
+    entry: &Entry,
+) -> Result<Option<(Call, Refusal)>, Memory> {
     let Call::SigPending = &entry.call else {
         return Ok(None);
     };
@@ -40,7 +44,7 @@ fn push_line(
     tally: &mut Tally,
     script: &Script,
     entry: &Entry,
-    refused: Option<(Call, Unfit)>,
+    refused: Option<(Call, Refusal)>,
 ) -> Result<(), Memory> {
     match refused {
         Some((call, why)) => {

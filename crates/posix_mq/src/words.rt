@@ -24,7 +24,7 @@ pub(crate) enum Spoken {
 }
 
 /// The call of this name.
-pub(crate) fn spoken(word: &[u8]) -> Spoken {
+pub(crate) fn call_named(word: &[u8]) -> Spoken {
     if word == b"mqopen".as_slice() {
         Spoken::Open
     } else if word == b"mqsend".as_slice() {
