@@ -4,4 +4,7 @@ pub mod Kernel
 pub mod Transition
 pub mod History
 pub mod Text
+pub mod Reading
+pub mod SystemV
+pub mod Fitting
 pub mod Examples

@@ -3,6 +3,7 @@
 #![tactic(auto)]
 
 mod errno;
+mod probe;
 mod follow;
 mod read;
 mod show;
