@@ -23,7 +23,6 @@ use Rattle.script_reader.specs.Forms.{FromCall, identifier, plainly, two_optiona
 use Rattle.script_reader.specs.Says.{end_said, is_comment, named_said, names_of, other_said, proc_said, set_at, tries_at}
 use Rattle.script_reader.specs.Fault.{Blocks, behind, ending, fault_of, line_behind, max_bytes, script_from, start, unless}
 
-
 -- ---- the calls on queues, by the words behind their names
 
 -- `/N`, with N from 1 to 1,000,000

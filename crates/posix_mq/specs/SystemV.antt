@@ -21,11 +21,14 @@ use Rattle.posix_mq.specs.Calls.{MqCall, Open, Send, Receive, GetAttr, Other, Mq
 -- ---- scripts
 
 -- a call of a given script that its arguments refuse, whatever the queue
-abbrev pub refusal_of : Call → Option MqErrno
-refusal_of (calls.MsgSnd id class text nowait) =
-    if int_lt (pos max_priority) class
+abbrev pub refusal_of_send : ℤ → List ℕ → Option MqErrno
+refusal_of_send priority text =
+    if int_lt (pos max_priority) priority
     then Some (Base Einval)
     else if nat_lt max_text (length text) then Some Emsgsize else None
+
+abbrev pub refusal_of : Call → Option MqErrno
+refusal_of (calls.MsgSnd id class text nowait) = refusal_of_send class text
 refusal_of (calls.MsgRcv id class size noerror nowait) = if nat_lt size max_text then Some Emsgsize else None
 refusal_of call = None
 
@@ -92,6 +95,10 @@ shown_on_queues reply = Plain reply
 abbrev pub shown_reply : MqCall → Reply → MqReply
 shown_reply (Other call) reply = Plain reply
 shown_reply call reply = shown_on_queues reply
+
+abbrev pub is_shown_on_queues : MqCall → Bool
+is_shown_on_queues (Other call) = false
+is_shown_on_queues call = true
 
 abbrev pub shown_own : MqCall → Option Reply → Option MqReply
 shown_own call own = option_and_then (λ reply. Some (shown_reply call reply)) own

@@ -15,7 +15,37 @@ pub enum MqErrno {
     Emsgsize,
 }
 
+fn plain_name(errno: Errno) -> &'static str
+    ensures { result.now ≡ error_name (MqErrno.Base errno) }
+{
+    match errno {
+        Errno::Esrch => "ESRCH",
+        Errno::Einval => "EINVAL",
+        Errno::Echild => "ECHILD",
+        Errno::Enoent => "ENOENT",
+        Errno::Eexist => "EEXIST",
+        Errno::Enomsg => "ENOMSG",
+        Errno::Eagain => "EAGAIN",
+        Errno::E2big => "E2BIG",
+        Errno::Efbig => "EFBIG",
+        Errno::Erange => "ERANGE",
+        Errno::Eidrm => "EIDRM",
+        Errno::Eintr => "EINTR",
+    }
+}
+
 impl MqErrno {
+    /// The error's name, as a trace has it.
+    pub fn name(self) -> &'static str
+        ensures { result.now ≡ error_name self }
+    {
+        match self {
+            MqErrno::Base(errno) => plain_name(errno),
+            MqErrno::Ebadf => "EBADF",
+            MqErrno::Emsgsize => "EMSGSIZE",
+        }
+    }
+
     /// The error's number in this profile.
     pub fn number(self) -> u32
         ensures { result ≡ error_number self }

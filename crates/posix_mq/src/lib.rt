@@ -3,8 +3,8 @@
 #![tactic(auto)]
 
 mod errno;
-mod probe;
 mod follow;
+mod probe;
 mod read;
 mod show;
 mod stand_in;

@@ -1,18 +1,25 @@
 //! The text of an entry as one of POSIX message queues.
 
-use crate::system_v::{Refusal, turned};
-use pico_base::{Bytes, Call, Entry, Errno, Id, Memory, Reply, Script};
+ghost use Rattle.std.specs.Prelude.{◌≡◌, ◌∷◌, ◌++◌, ℕ, pos, codes, OnOk};
+ghost use Rattle.std.specs.List.{flat_map};
+ghost use Rattle.std.specs.Fmt.{decimal};
+ghost use Rattle.kernel_model.specs.Texts.{message_text};
+ghost use Rattle.kernel_model.specs.Trace.{create_words, by_text, wake_text, labelled};
+ghost use Rattle.posix_mq.specs.Calls.{Open, Send, Receive};
+ghost use Rattle.posix_mq.specs.SystemV as system;
+ghost use Rattle.posix_mq.specs.Text as text;
+
+use crate::errno::MqErrno;
+use crate::system_v::turned;
+use pico_base::{Bytes, Call, Entry, Errno, Id, Memory, Pid, Reply, Script};
 use std::alloc::Global;
-use std::slice;
-use trace_text::{push, push_byte, push_entries, push_number, push_reply};
+use trace_text::{push, push_byte, push_call, push_number, push_reply};
 
 /// A priority, and a text.
-fn push_message(
-    alloc: Global,
-    out: &mut Vec<u8>,
-    priority: i32,
-    text: &Bytes,
-) -> Result<(), Memory> {
+fn push_message(alloc: Global, out: &mut Vec<u8>, priority: i32, text: &Bytes) -> Result<(), Memory>
+    ensures { (n : ℕ) → priority ≡ pos n
+        → OnOk result (out.new.items ≡ out.old.items ++ (decimal n ++ 32 ∷ message_text text.now)) }
+{
     let message = Reply::Message {
         class: priority,
         text: text.try_copy(alloc)?,
@@ -20,14 +27,32 @@ fn push_message(
     push_reply(out, &message)
 }
 
+/// The same behind a blank.
+fn push_argument(
+    alloc: Global,
+    out: &mut Vec<u8>,
+    priority: i32,
+    text: &Bytes,
+) -> Result<(), Memory>
+    ensures { (n : ℕ) → priority ≡ pos n
+        → OnOk result (out.new.items ≡ out.old.items ++ 32 ∷ (decimal n ++ 32 ∷ message_text text.now)) }
+{
+    push_byte(out, b' ')?;
+    push_message(alloc, out, priority, text)
+}
+
 /// A call's name, and a number.
-fn push_named(out: &mut Vec<u8>, name: &[u8], number: u32) -> Result<(), Memory> {
+fn push_named(out: &mut Vec<u8>, name: &[u8], number: u32) -> Result<(), Memory>
+    ensures { OnOk result (out.new.items ≡ out.old.items ++ labelled name.now number) }
+{
     push(out, name)?;
     push_number(out, u64::from(number))
 }
 
-fn push_open(out: &mut Vec<u8>, name: u32, create: bool, excl: bool) -> Result<(), Memory> {
-    push_named(out, b"mqopen /", name)?;
+/// `create` and `excl`, where they stand.
+fn push_options(out: &mut Vec<u8>, create: bool, excl: bool) -> Result<(), Memory>
+    ensures { OnOk result (out.new.items ≡ out.old.items ++ create_words create excl) }
+{
     if create {
         push(out, b" create")?;
     }
@@ -37,47 +62,46 @@ fn push_open(out: &mut Vec<u8>, name: u32, create: bool, excl: bool) -> Result<(
     Ok(())
 }
 
+fn push_open(out: &mut Vec<u8>, name: u32, create: bool, excl: bool) -> Result<(), Memory>
+    ensures { OnOk result
+        (out.new.items ≡ out.old.items ++ (labelled (codes "mqopen /") name ++ create_words create excl)) }
+{
+    push_named(out, b"mqopen /", name)?;
+    push_options(out, create, excl)
+}
+
 fn push_send(
     alloc: Global,
     out: &mut Vec<u8>,
     id: Id,
     priority: i32,
     text: &Bytes,
-) -> Result<(), Memory> {
+) -> Result<(), Memory>
+    ensures { (n : ℕ) → priority ≡ pos n → OnOk result (out.new.items
+        ≡ out.old.items ++ (labelled (codes "mqsend ") id ++ 32 ∷ (decimal n ++ 32 ∷ message_text text.now))) }
+{
     push_named(out, b"mqsend ", id.0)?;
-    push_byte(out, b' ')?;
-    push_message(alloc, out, priority, text)
+    push_argument(alloc, out, priority, text)
 }
 
-fn push_receive(out: &mut Vec<u8>, id: Id, size: u32) -> Result<(), Memory> {
+fn push_receive(out: &mut Vec<u8>, id: Id, size: u32) -> Result<(), Memory>
+    ensures { OnOk result
+        (out.new.items ≡ out.old.items ++ (labelled (codes "mqreceive ") id ++ labelled (codes " ") size)) }
+{
     push_named(out, b"mqreceive ", id.0)?;
     push_named(out, b" ", size)
 }
 
-fn push_maker(out: &mut Vec<u8>, entry: &Entry) -> Result<(), Memory> {
-    push_number(out, u64::from(entry.pid.0))?;
-    push_byte(out, b' ')
-}
-
-fn push_node(out: &mut Vec<u8>, entry: &Entry) -> Result<(), Memory> {
-    push(out, b" by ")?;
-    push_number(out, u64::from(entry.by.0))?;
-    push_byte(out, b'\n')
-}
-
-/// What a call on queues came to.
-fn push_answer(alloc: Global, out: &mut Vec<u8>, reply: &Reply) -> Result<(), Memory> {
-    match reply {
-        Reply::Fail(Errno::Einval) => push(out, b"EBADF"),
-        Reply::Fail(Errno::Enomsg) => push(out, b"EAGAIN"),
-        Reply::Message { class, text } => push_message(alloc, out, turned(*class), text),
-        Reply::Stat { qnum, .. } => push_named(out, b"maxmsg 1024 msgsize 16 curmsgs ", *qnum),
-        _ => push_reply(out, reply),
-    }
-}
-
-/// A call on queues, as it was given; none where the call is another.
-fn push_queue_call(alloc: Global, out: &mut Vec<u8>, call: &Call) -> Result<(), Memory> {
+/// A call of a given script, with actual numbers.
+fn push_given_call(
+    alloc: Global,
+    out: &mut Vec<u8>,
+    script: &Script,
+    call: &Call,
+) -> Result<(), Memory>
+    ensures { OnOk result
+        (out.new.items ≡ out.old.items ++ text.mq_call_text script.now (system.given_call call.now)) }
+{
     match call {
         Call::MsgGet {
             key: Some(key),
@@ -89,67 +113,158 @@ fn push_queue_call(alloc: Global, out: &mut Vec<u8>, call: &Call) -> Result<(), 
             class,
             text,
             ..
-        } => push_send(alloc, out, *id, turned(*class), text),
+        } if *class >= 0 => push_send(alloc, out, *id, *class, text),
         Call::MsgRcv { id, size, .. } => push_receive(out, *id, *size),
         Call::MsgStat { id } => push_named(out, b"mqgetattr ", id.0),
-        _ => Ok(()),
+        _ => push_call(out, script, call),
     }
 }
 
-/// A call that its arguments refuse, as it was given.
-fn push_given_call(alloc: Global, out: &mut Vec<u8>, call: &Call) -> Result<(), Memory> {
+/// The call of a given script that this call of the script of System V stands for.
+fn push_shown_call(
+    alloc: Global,
+    out: &mut Vec<u8>,
+    script: &Script,
+    call: &Call,
+) -> Result<(), Memory>
+    ensures { OnOk result
+        (out.new.items ≡ out.old.items ++ text.mq_call_text script.now (system.shown_call call.now)) }
+{
     match call {
         Call::MsgSnd {
             id,
             class,
             text,
             ..
-        } => push_send(alloc, out, *id, *class, text),
-        Call::MsgRcv { id, size, .. } => push_receive(out, *id, *size),
-        _ => Ok(()),
+        } if *class >= 0 => push_send(alloc, out, *id, turned(*class), text),
+        _ => push_given_call(alloc, out, script, call),
     }
 }
 
-fn is_on_queues(call: &Call) -> bool {
-    matches!(
-        call,
-        Call::MsgGet { .. } | Call::MsgSnd { .. } | Call::MsgRcv { .. } | Call::MsgStat { .. }
-    )
+/// The error that a call on queues has in the place of this one.
+fn shown_error(errno: Errno) -> MqErrno
+    ensures { result ≡ system.shown_error errno }
+{
+    match errno {
+        Errno::Einval => MqErrno::Ebadf,
+        Errno::Enomsg => MqErrno::Base(Errno::Eagain),
+        _ => MqErrno::Base(errno),
+    }
 }
 
-/// Adds the line of an entry of a call that its arguments refuse.
-pub(crate) fn push_refused(
+/// The reply to a call on queues.
+fn push_on_queues(alloc: Global, out: &mut Vec<u8>, reply: &Reply) -> Result<(), Memory>
+    ensures { OnOk result
+        (out.new.items ≡ out.old.items ++ text.mq_reply_text (system.shown_on_queues reply.now)) }
+{
+    match reply {
+        Reply::Fail(errno) => push(out, shown_error(*errno).name().as_bytes()),
+        Reply::Message { class, text } if *class >= 0 => {
+            push_message(alloc, out, turned(*class), text)
+        }
+        Reply::Stat { qnum, .. } => push_named(out, b"maxmsg 1024 msgsize 16 curmsgs ", *qnum),
+        _ => push_reply(out, reply),
+    }
+}
+
+/// Whether this call of the script of System V stands for one on queues.
+fn is_on_queues(call: &Call) -> bool
+    ensures { result ≡ system.is_shown_on_queues (system.shown_call call.now) }
+{
+    match call {
+        Call::MsgGet { key, .. } => key.is_some(),
+        Call::MsgSnd { class, .. } => *class >= 0,
+        Call::MsgRcv { .. } | Call::MsgStat { .. } => true,
+        _ => false,
+    }
+}
+
+fn push_shown_reply(
     alloc: Global,
     out: &mut Vec<u8>,
-    entry: &Entry,
-    given: &Call,
-    why: Refusal,
-) -> Result<(), Memory> {
-    push_maker(out, entry)?;
-    push_given_call(alloc, out, given)?;
-    push(out, b" = ")?;
-    match why {
-        Refusal::Priority => push(out, b"EINVAL")?,
-        Refusal::Size => push(out, b"EMSGSIZE")?,
+    call: &Call,
+    reply: &Reply,
+) -> Result<(), Memory>
+    ensures { OnOk result (out.new.items ≡ out.old.items
+        ++ text.mq_reply_text (system.shown_reply (system.shown_call call.now) reply.now)) }
+{
+    if is_on_queues(call) {
+        push_on_queues(alloc, out, reply)
+    } else {
+        push_reply(out, reply)
     }
-    push_node(out, entry)
 }
 
-/// Adds the line of any other entry.
-pub(crate) fn push_entry(
+/// What the call came to for its caller.
+fn push_own(
+    alloc: Global,
+    out: &mut Vec<u8>,
+    call: &Call,
+    own: &Option<Reply>,
+) -> Result<(), Memory>
+    ensures { OnOk result (out.new.items ≡ out.old.items
+        ++ text.mq_own_text (system.shown_own (system.shown_call call.now) own.now)) }
+{
+    match own {
+        Some(reply) => push_shown_reply(alloc, out, call, reply),
+        None => push(out, b"parked"),
+    }
+}
+
+fn push_wakes(out: &mut Vec<u8>, woken: &[(Pid, Reply)]) -> Result<(), Memory>
+    ensures { OnOk result (out.new.items ≡ out.old.items ++ flat_map wake_text woken.now) }
+{
+    for (pid, reply) in woken {
+        push_named(out, b" wakes ", pid.0)?;
+        push_byte(out, b' ')?;
+        push_reply(out, reply)?;
+    }
+    Ok(())
+}
+
+/// Who carried the call out, and whom that woke.
+fn push_by(out: &mut Vec<u8>, node: u8, woken: &[(Pid, Reply)]) -> Result<(), Memory>
+    ensures { OnOk result (out.new.items ≡ out.old.items ++ by_text node woken.now) }
+{
+    push_named(out, b" by ", u32::from(node))?;
+    push_wakes(out, woken)?;
+    push_byte(out, b'\n')
+}
+
+/// Adds the line of an entry of this given call, which its arguments refuse so.
+pub(crate) fn push_refused(
     alloc: Global,
     out: &mut Vec<u8>,
     script: &Script,
     entry: &Entry,
-) -> Result<(), Memory> {
-    if !is_on_queues(&entry.call) {
-        return push_entries(out, script, slice::from_ref(entry));
-    }
-    push_maker(out, entry)?;
-    push_queue_call(alloc, out, &entry.call)?;
+    given: &Call,
+    why: MqErrno,
+) -> Result<(), Memory>
+    ensures { OnOk result (out.new.items ≡ out.old.items
+        ++ text.mq_line script.now (system.shown_refused entry.now given.now why)) }
+{
+    push_number(out, u64::from(entry.pid.0))?;
+    push_byte(out, b' ')?;
+    push_given_call(alloc, out, script, given)?;
     push(out, b" = ")?;
-    if let Some(reply) = &entry.outcome.own {
-        push_answer(alloc, out, reply)?;
-    }
-    push_node(out, entry)
+    push(out, why.name().as_bytes())?;
+    push_by(out, entry.by.0, &[])
+}
+
+/// Adds the line of any other entry.
+pub(crate) fn push_shown(
+    alloc: Global,
+    out: &mut Vec<u8>,
+    script: &Script,
+    entry: &Entry,
+) -> Result<(), Memory>
+    ensures { OnOk result (out.new.items ≡ out.old.items
+        ++ text.mq_line script.now (system.shown_plainly entry.now)) }
+{
+    push_number(out, u64::from(entry.pid.0))?;
+    push_byte(out, b' ')?;
+    push_shown_call(alloc, out, script, &entry.call)?;
+    push(out, b" = ")?;
+    push_own(alloc, out, &entry.call, &entry.outcome.own)?;
+    push_by(out, entry.by.0, entry.outcome.woken.as_slice())
 }

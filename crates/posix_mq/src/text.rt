@@ -1,8 +1,9 @@
 //! The text of a history of POSIX message queues, by the journal of the System V run behind it.
 
+use crate::errno::MqErrno;
 use crate::follow::Follower;
-use crate::show::{push_entry, push_refused};
-use crate::system_v::{Refusal, unfit};
+use crate::show::{push_refused, push_shown};
+use crate::system_v::unfit;
 use pico_base::{Bytes, Call, Entry, Errno, Memory, Outcome, Reply, Script};
 use std::alloc::Global;
 use std::slice;
@@ -13,7 +14,7 @@ fn refused(
     follower: &Follower,
     given: &Script,
     entry: &Entry,
-) -> Result<Option<(Call, Refusal)>, Memory> {
+) -> Result<Option<(Call, MqErrno)>, Memory> {
     let Call::SigPending = &entry.call else {
         return Ok(None);
     };
@@ -44,15 +45,15 @@ fn push_line(
     tally: &mut Tally,
     script: &Script,
     entry: &Entry,
-    refused: Option<(Call, Refusal)>,
+    refused: Option<(Call, MqErrno)>,
 ) -> Result<(), Memory> {
     match refused {
         Some((call, why)) => {
-            push_refused(alloc, out, entry, &call, why)?;
+            push_refused(alloc, out, script, entry, &call, why)?;
             count_refused(alloc, tally, entry)
         }
         None => {
-            push_entry(alloc, out, script, entry)?;
+            push_shown(alloc, out, script, entry)?;
             tally.add(slice::from_ref(entry))
         }
     }
