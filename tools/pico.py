@@ -35,6 +35,7 @@ pico runs a script of processes and writes a trace: every call in one order, its
   ./pico check [FILE]                       judges a script, a line `trace` and a trace: whether a single kernel could
                                             have given that trace to the script's processes
   ./pico gen [--seed N] [--steps]           runs the generated script of number N with threads, and writes the totals
+  ./pico mq [--steps] [FILE]                runs a script of POSIX message queues as `run` does, and writes its trace
   ./pico boxes [FILE]                       runs the scripts of several sandboxes at once, each as `run` does, and writes
                                             for each its name and its trace
   ./pico freeze [--seed N] [FILE]           runs a script for N events, each node in its turn, and writes an image: the

@@ -17,7 +17,7 @@ pub struct Told<'a> {
     pub expected: Text<'a>,
 }
 
-const MODES_TEXT: &str = "a mode: run, sim, check, gen, boxes, freeze or thaw";
+const MODES_TEXT: &str = "a mode: run, sim, check, gen, mq, boxes, freeze or thaw";
 
 impl<'a> Told<'a> {
     pub fn new(place: usize, what: Text<'a>, expected: Text<'a>) -> Self {

@@ -1,7 +1,7 @@
 //! The modes, and the words that the usage line names.
 
 /// The names of the modes.
-pub static MODES: [&str; 7] = ["run", "sim", "check", "gen", "boxes", "freeze", "thaw"];
+pub static MODES: [&str; 8] = ["run", "sim", "check", "gen", "mq", "boxes", "freeze", "thaw"];
 
 /// All options.
 pub static OPTIONS: [&str; 6] = ["--seed", "--steps", "--help", "-h", "--version", "--prove"];
@@ -20,7 +20,7 @@ pub struct Mode {
     pub form: &'static str,
 }
 
-static ALL: [Mode; 7] = [
+static ALL: [Mode; 8] = [
     Mode {
         name: "run",
         asked: "./pico run ",
@@ -60,6 +60,16 @@ static ALL: [Mode; 7] = [
         has_steps: true,
         unlike: "",
         form: "",
+    },
+    Mode {
+        name: "mq",
+        asked: "./pico mq ",
+        alone: "one mode: mq",
+        reads: true,
+        has_seed: false,
+        has_steps: true,
+        unlike: "`mq` has no number: its threads choose",
+        form: "./pico mq [--steps] [FILE]",
     },
     Mode {
         name: "boxes",

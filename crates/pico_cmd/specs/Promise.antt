@@ -35,7 +35,7 @@ use Rattle.pico_cmd.specs.Stalled.{are_left_stalled}
 use Rattle.pico_cmd.specs.Stop.{most_read}
 
 unfoldable pub usage_text : List ℕ
-usage_text = codes "usage: pico run|sim|check|gen|boxes|freeze|thaw [--seed N] [--steps]\n"
+usage_text = codes "usage: pico run|sim|check|gen|mq|boxes|freeze|thaw [--seed N] [--steps]\n"
 
 -- a line, and the name of the fault that is there
 abbrev pub named_fault_text : ℕ → List ℕ → List ℕ
