@@ -189,8 +189,7 @@ fn run_queues<R: Threads + Wait + Sync, S: Source, G: Gate>(
     steps: bool,
     source: &mut S,
     gate: &G,
-) -> Result<Answer, Stop>
-{
+) -> Result<Answer, Stop> {
     let bytes = bytes_up_to(alloc, source, MAX_SCRIPT)?;
     Ok(answer_to_queues(rt, alloc, bytes.as_slice(), steps, gate)?)
 }

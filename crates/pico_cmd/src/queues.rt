@@ -22,8 +22,7 @@ fn run_given<R: Threads + Wait + Sync, G: Gate>(
     script: MqScript,
     steps: bool,
     gate: &G,
-) -> Result<Answer, Memory>
-{
+) -> Result<Answer, Memory> {
     laws();
     let MqScript { script, given } = script;
     let rested = run(rt, alloc, script, gate)?;
@@ -40,16 +39,15 @@ fn run_given<R: Threads + Wait + Sync, G: Gate>(
     })
 }
 
-/// The answer to these bytes: the trace of the run with threads of the script of POSIX message queues that they are, and
-/// its events where they are wanted, or their first fault.
+/// The answer to these bytes: the trace of the run with threads of the script of POSIX message queues that they are,
+/// and its events where they are wanted, or their first fault.
 pub fn answer_to_queues<R: Threads + Wait + Sync, G: Gate>(
     rt: &R,
     alloc: Global,
     bytes: &[u8],
     steps: bool,
     gate: &G,
-) -> Result<Answer, Memory>
-{
+) -> Result<Answer, Memory> {
     match read_mq(alloc, bytes) {
         Ok(script) => run_given(rt, alloc, script, steps, gate),
         Err(ScriptStop::At { line, fault }) => Ok(Answer {

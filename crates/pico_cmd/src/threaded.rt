@@ -51,7 +51,12 @@ fn tell_rested(rested: &Rested, telling: Telling) -> Result<Bytes, Memory>
 }
 
 // A text, and the events of a run behind it where they are wanted.
-pub(crate) fn with_events(alloc: Global, text: Bytes, steps: bool, rested: &Rested) -> Result<Bytes, Memory>
+pub(crate) fn with_events(
+    alloc: Global,
+    text: Bytes,
+    steps: bool,
+    rested: &Rested,
+) -> Result<Bytes, Memory>
     ensures { IfOk result (λ whole. whole ≡ text ++ steps_if steps (events_in rested.now)) }
 {
     if !steps {

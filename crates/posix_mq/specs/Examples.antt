@@ -75,7 +75,8 @@ takes_the_oldest_of_the_highest = refl
 
 -- the arguments are looked at before the queue: EINVAL, then EMSGSIZE, and only then EBADF
 pub refuses_by_arguments_first : replies (
-    opens ∷ by 1 (Send 99 32 (replicate 17 97)) ∷ by 1 (Send 99 31 (replicate 17 97)) ∷ by 1 (Send 99 31 (replicate 16 97))
+    opens ∷ by 1 (Send 99 32 (replicate 17 97)) ∷ by 1 (Send 99 31 (replicate 17 97))
+    ∷ by 1 (Send 99 31 (replicate 16 97))
     ∷ by 1 (Receive 99 15) ∷ by 1 (Receive 99 16) ∷ by 1 (GetAttr 99) ∷ sends 32 [] ∷ receives 15
     ∷ by 1 (GetAttr 1) ∷ [])
     ≡ number 1 ∷ fails (Base Einval) ∷ fails Emsgsize ∷ fails Ebadf ∷ fails Emsgsize ∷ fails Ebadf ∷ fails Ebadf
@@ -89,7 +90,8 @@ leaves_all = refl
 
 -- a name has one queue: a second `mqopen` gives its number, or is refused where a new one is wanted
 pub opens_by_name : replies (
-    by 1 (Open 5 false false) ∷ by 1 (Open 5 false true) ∷ creating 1 (Open 5 true true) 3 ∷ creating 1 (Open 5 true false) 4
+    by 1 (Open 5 false false) ∷ by 1 (Open 5 false true) ∷ creating 1 (Open 5 true true) 3
+    ∷ creating 1 (Open 5 true false) 4
     ∷ by 1 (Open 5 true true) ∷ by 1 (Open 5 false true) ∷ creating 1 (Open 6 true false) 3
     ∷ creating 1 (Open 6 true false) 0 ∷ creating 1 (Open 6 true false) 4 ∷ [])
     ≡ fails (Base Enoent) ∷ fails (Base Enoent) ∷ number 3 ∷ number 3 ∷ fails (Base Eexist) ∷ number 3 ∷ None ∷ None
@@ -110,8 +112,8 @@ pub goes_on_beside : replies (
     ∷ by 2 (Send 1 7 (codes "x")) ∷ by 2 (Other (calls.SemOp 1 (record { num = 0; add = pos 1; nowait = false } ∷ [])))
     ∷ by 2 (Other (calls.Exit 0)) ∷ by 2 (GetAttr 1) ∷ by 1 (Other (calls.WaitPid None true)) ∷ receives 16
     ∷ by 1 (Other (calls.SemGetVal 1 0)) ∷ by 1 (Other (calls.MsgStat 1)) ∷ [])
-    ≡ number 1 ∷ Some (Plain (Num 1)) ∷ Some (Plain (Num 2)) ∷ number 0 ∷ Some (Plain (Num 0)) ∷ Some (Plain Ended) ∷ None
-    ∷ Some (Plain (Child 2 (Exited 0))) ∷ Some (Taken 7 (codes "x")) ∷ Some (Plain (Num 1)) ∷ None ∷ []
+    ≡ number 1 ∷ Some (Plain (Num 1)) ∷ Some (Plain (Num 2)) ∷ number 0 ∷ Some (Plain (Num 0)) ∷ Some (Plain Ended)
+    ∷ None ∷ Some (Plain (Child 2 (Exited 0))) ∷ Some (Taken 7 (codes "x")) ∷ Some (Plain (Num 1)) ∷ None ∷ []
 goes_on_beside = refl
 
 -- a process that is doomed by another's signal has one more call, of queues too, and then its end alone

@@ -1,6 +1,6 @@
 -- A history of POSIX message queues fits a given script as any history fits its script: each process makes the calls of
--- its block, in order and each once, and a line that may try again does where nothing was there, where there was no such
--- name, and where no child had ended.
+-- its block, in order and each once, and a line that may try again does where nothing was there, where there was no
+-- such name, and where no child had ended.
 use Rattle.std.specs.Prelude.{ℕ, pos, false, true, List, [], ◌∷◌, map, Option, Some, None}
 use Rattle.std.specs.Option.{option_and_then}
 use Rattle.pico_base.specs.declared.call.Call.{Call}

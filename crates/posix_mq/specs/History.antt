@@ -1,10 +1,10 @@
--- A history of a script of POSIX message queues is a list of carried-out calls. It is legal where each is the kernel's at
--- its point.
+-- A history of a script of POSIX message queues is a list of carried-out calls. It is legal where each is the kernel's
+-- at its point.
 use Rattle.std.specs.Prelude.{◌≡◌, ℕ, List, [], ◌∷◌, Option, Some}
 use Rattle.pico_base.specs.declared.reply.Reply.TheVariants.{Num}
 use Rattle.posix_mq.specs.Calls.{MqEntry, MqReply, Number, Plain}
 use Rattle.posix_mq.specs.Kernel.{MqKernel, opening}
-use Rattle.posix_mq.specs.Transition.{mq_transition}
+use Rattle.posix_mq.specs.Transition.{mq_transition, successor}
 
 -- the number that an entry may have created: the one in its reply, and else 0
 abbrev pub number_in : Option MqReply → ℕ
@@ -15,7 +15,7 @@ number_in _ = 0
 -- the transition gives just this entry's outcome, and the rest goes on from the next kernel
 pub record ReplaysEntry (k : MqKernel) (e : MqEntry) (Rest : MqKernel → Type 0) : Type 0 where
   pub next : MqKernel
-  pub step : mq_transition k e.pid e.call (number_in e.outcome.own) ≡ Some (record { kernel = next; outcome = e.outcome })
+  pub step : mq_transition k e.pid e.call (number_in e.outcome.own) ≡ Some (successor next e.outcome)
   pub rest : Rest next
 
 -- entry by entry, from a kernel to the last one

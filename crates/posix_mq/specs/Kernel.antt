@@ -8,8 +8,8 @@ use Rattle.waiting_model.specs.Marks.{new_alive}
 use Rattle.waiting_model.specs.Waiters.{Awaited}
 use Rattle.posix_mq.specs.Queue.{Queue}
 
--- Processes, queues and sets by number, the numbers of the names of queues, the identifiers of the keys of sets, and the
--- numbers used so far of each kind.
+-- Processes, queues and sets by number, the numbers of the names of queues, the identifiers of the keys of sets, and
+-- the numbers used so far of each kind.
 pub record MqKernel : Type 0 where
   pub processes : Numbered Process
   pub names : Numbered ℕ

@@ -7,4 +7,5 @@ pub mod Text
 pub mod Reading
 pub mod SystemV
 pub mod Fitting
+pub mod Shown
 pub mod Examples

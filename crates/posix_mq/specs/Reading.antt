@@ -1,7 +1,7 @@
--- What a text is the script of, where its calls on queues are those of POSIX message queues, and what its first fault is.
--- A script that was read has the calls on queues in System V's words: `mqopen` as a `msgget` with the number of the name
--- as its key, `mqsend` as a `msgsnd` with the priority as its type, `mqreceive` as a `msgrcv` of type 0, and `mqgetattr`
--- as `msgctl` with `stat`. It has no other calls on queues.
+-- What a text is the script of, where its calls on queues are those of POSIX message queues, and what its first fault
+-- is. A script that was read has the calls on queues in System V's words: `mqopen` as a `msgget` with the number of the
+-- name as its key, `mqsend` as a `msgsnd` with the priority as its type, `mqreceive` as a `msgrcv` of type 0, and
+-- `mqgetattr` as a `msgctl` with `stat`. It has no other calls on queues.
 use Rattle.std.specs.Prelude.{◌≡◌, ℕ, pos, ◌+◌, nat_lt, Bool, true, false, ◌||◌, List, [], ◌∷◌, length, codes, bytes_eq, if◌then◌else◌, Option, Some, None, option_map, Result, Ok, Err}
 use Rattle.std.specs.Str.Lossy.{utf8_valid_len}
 use Rattle.pico_base.specs.declared.call.Call.TheVariants as calls

@@ -1,6 +1,6 @@
 -- What a call does: from a kernel, a process, a call and a number for what the call may create, the next kernel and the
--- outcome. Where there is no result the call can't stand at that point of a history. The order of each call's refusals is
--- the profile's.
+-- outcome. Where there is no result the call can't stand at that point of a history. The order of each call's refusals
+-- is the profile's.
 use Rattle.std.specs.Prelude.{ℕ, Bool, true, false, not, ◌&&◌, nat_lt, List, [], length, map, if◌then◌else◌, Option, Some, None, is_some, remove, slice_get}
 use Rattle.std.specs.Option.{option_and_then}
 use Rattle.pico_base.specs.declared.call.Call.{Call}
@@ -46,8 +46,8 @@ new_queue k name n =
     (Number n))
     else None
 
--- mqopen: ENOENT where there is no such name and none is to be made, EEXIST where a new one was asked for and the name is
--- there; `excl` alone means nothing
+-- mqopen: ENOENT where there is no such name and none is to be made, EEXIST where a new one was asked for and the name
+-- is there; `excl` alone means nothing
 abbrev pub open_at : MqKernel → ℕ → Bool → Bool → ℕ → Option ℕ → Option MqEffect
 open_at k name create excl n None = if create then new_queue k name n else Some (refuse k (Base Enoent))
 open_at k name create excl n (Some id) =
@@ -77,8 +77,8 @@ send k id priority text =
     then refuse k Emsgsize
     else on_queue k (get k.queues id) (send_to k id priority text)
 
--- mqreceive: EMSGSIZE where there isn't room for the longest message, EAGAIN where no message is there. What is taken is
--- the oldest message of the highest priority.
+-- mqreceive: EMSGSIZE where there isn't room for the longest message, EAGAIN where no message is there. What is taken
+-- is the oldest message of the highest priority.
 abbrev pub take_at : MqKernel → ℕ → Queue → ℕ → Option Message → MqEffect
 take_at k id q place None = refuse k (Base Eagain)
 take_at k id q place (Some m) = replying (with_queue k id (remove q place)) (Taken m.priority m.text)
@@ -117,6 +117,9 @@ pub record MqSuccessor : Type 0 where
   pub kernel : MqKernel
   pub outcome : MqOutcome
 
+abbrev pub successor : MqKernel → MqOutcome → MqSuccessor
+successor kernel outcome = record { kernel = kernel; outcome = outcome }
+
 abbrev pub alone : MqReply → MqOutcome
 alone reply = record { own = Some reply; woken = [] }
 
@@ -129,8 +132,8 @@ on_queues k pid e None = None
 on_queues k pid None (Some a) = None
 on_queues k pid (Some e) (Some a) = if may_act a then Some (after_effect pid e) else None
 
--- The other calls are those of the System V kernel, but for those on its queues, which no script of POSIX message queues
--- has
+-- The other calls are those of the System V kernel, but for those on its queues, which no script of POSIX message
+-- queues has
 abbrev pub is_on_queues : Call → Bool
 is_on_queues (calls.MsgGet key create excl) = true
 is_on_queues (calls.MsgSnd id class text nowait) = true

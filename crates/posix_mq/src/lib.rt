@@ -4,7 +4,6 @@
 
 mod errno;
 mod follow;
-mod probe;
 mod read;
 mod show;
 mod stand_in;

@@ -1,5 +1,12 @@
 //! A script of POSIX message queues, and the script of System V that runs it.
 
+ghost use Rattle.std.specs.Prelude.{◌≡◌, ◌⊎◌, ℕ, IfOk, IfErr, Ok, Err};
+ghost use Rattle.pico_base.specs.declared.script.Script.{Script as ScriptValue};
+ghost use Rattle.script_reader.specs.declared.fault.ScriptFault.{ScriptFault as FaultValue};
+ghost use Rattle.kernel_model.specs.Script.{IsSoundScript};
+ghost use Rattle.posix_mq.specs.Reading.{HasFault, IsFirstFault, Reads};
+ghost use Rattle.posix_mq.specs.SystemV as system;
+
 use crate::stand_in::StandIn;
 use crate::system_v::system_v;
 use pico_base::{Block, Call, Line, Script};
@@ -10,8 +17,8 @@ use std::alloc::Global;
 /// is the script of System V that runs it, line for line.
 ///
 /// In `given` an `mqopen` is a `msgget` with the number of the queue's name as its key; an `mqsend` is a `msgsnd` with
-/// the priority as its type; an `mqreceive` is a `msgrcv` of type 0; an `mqgetattr` is a `msgctl` with `stat`. It has no
-/// other calls on queues.
+/// the priority as its type; an `mqreceive` is a `msgrcv` of type 0; an `mqgetattr` is a `msgctl` with `stat`. It has
+/// no other calls on queues.
 #[derive(Debug, PartialEq, Eq, Drop)]
 pub struct MqScript {
     pub script: Script,
@@ -67,7 +74,21 @@ fn short_script(alloc: Global, bytes: &[u8]) -> Result<MqScript, ScriptStop> {
 
 /// The script that the bytes are the text of, with the calls of POSIX message queues in place of System V's. A fault is
 /// the first one, as `read_script` has it.
-pub fn read_mq(alloc: Global, bytes: &[u8]) -> Result<MqScript, ScriptStop> {
+pub fn read_mq(alloc: Global, bytes: &[u8]) -> Result<MqScript, ScriptStop>
+    // The bytes are the text of what is read, and it is run as it should be.
+    ensures ok { IfOk result (λ read. Reads bytes.now read.given) }
+    ensures runs { IfOk result (λ read. read.script ≡ system.system_v read.given) }
+    ensures sound { IfOk result (λ read. IsSoundScript read.given) }
+    ensures sound_script { IfOk result (λ read. IsSoundScript read.script) }
+    // A fault is the first one.
+    ensures fault { IfErr result (HasFault bytes.now) }
+    // A text of a script is read, and one with a fault is refused for it, unless memory runs out.
+    ensures only { (given : ScriptValue) → Reads bytes.now given
+        → (result ≡ Ok (record { script = system.system_v given; given = given }))
+        ⊎ (result ≡ Err ScriptStop.Memory) }
+    ensures only_fault { (line : ℕ) (fault : FaultValue) → IsFirstFault bytes.now line fault
+        → (result ≡ Err (ScriptStop.At line fault)) ⊎ (result ≡ Err ScriptStop.Memory) }
+{
     if bytes.len() > MAX_BYTES {
         return Err(at_byte(MAX_BYTES, bytes, ScriptFault::ScriptTooLong));
     }

@@ -1,11 +1,10 @@
 //! The text of an entry as one of POSIX message queues.
 
-ghost use Rattle.std.specs.Prelude.{◌≡◌, ◌∷◌, ◌++◌, ℕ, pos, codes, OnOk};
+ghost use Rattle.std.specs.Prelude.{◌≡◌, ◌∷◌, ◌++◌, codes, OnOk};
 ghost use Rattle.std.specs.List.{flat_map};
-ghost use Rattle.std.specs.Fmt.{decimal};
+ghost use Rattle.std.specs.Fmt.{signed_decimal};
 ghost use Rattle.kernel_model.specs.Texts.{message_text};
 ghost use Rattle.kernel_model.specs.Trace.{create_words, by_text, wake_text, labelled};
-ghost use Rattle.posix_mq.specs.Calls.{Open, Send, Receive};
 ghost use Rattle.posix_mq.specs.SystemV as system;
 ghost use Rattle.posix_mq.specs.Text as text;
 
@@ -17,8 +16,8 @@ use trace_text::{push, push_byte, push_call, push_number, push_reply};
 
 /// A priority, and a text.
 fn push_message(alloc: Global, out: &mut Vec<u8>, priority: i32, text: &Bytes) -> Result<(), Memory>
-    ensures { (n : ℕ) → priority ≡ pos n
-        → OnOk result (out.new.items ≡ out.old.items ++ (decimal n ++ 32 ∷ message_text text.now)) }
+    ensures { OnOk result
+        (out.new.items ≡ out.old.items ++ (signed_decimal priority ++ 32 ∷ message_text text.now)) }
 {
     let message = Reply::Message {
         class: priority,
@@ -34,8 +33,8 @@ fn push_argument(
     priority: i32,
     text: &Bytes,
 ) -> Result<(), Memory>
-    ensures { (n : ℕ) → priority ≡ pos n
-        → OnOk result (out.new.items ≡ out.old.items ++ 32 ∷ (decimal n ++ 32 ∷ message_text text.now)) }
+    ensures { OnOk result
+        (out.new.items ≡ out.old.items ++ 32 ∷ (signed_decimal priority ++ 32 ∷ message_text text.now)) }
 {
     push_byte(out, b' ')?;
     push_message(alloc, out, priority, text)
@@ -77,8 +76,8 @@ fn push_send(
     priority: i32,
     text: &Bytes,
 ) -> Result<(), Memory>
-    ensures { (n : ℕ) → priority ≡ pos n → OnOk result (out.new.items
-        ≡ out.old.items ++ (labelled (codes "mqsend ") id ++ 32 ∷ (decimal n ++ 32 ∷ message_text text.now))) }
+    ensures { OnOk result (out.new.items ≡ out.old.items
+        ++ (labelled (codes "mqsend ") id ++ 32 ∷ (signed_decimal priority ++ 32 ∷ message_text text.now))) }
 {
     push_named(out, b"mqsend ", id.0)?;
     push_argument(alloc, out, priority, text)

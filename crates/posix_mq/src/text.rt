@@ -1,5 +1,13 @@
 //! The text of a history of POSIX message queues, by the journal of the System V run behind it.
 
+ghost use Rattle.std.specs.Prelude.{◌≡◌, IfOk};
+ghost use Rattle.kernel_model.specs.Script.{IsSoundScript};
+ghost use Rattle.waiting_model.specs.History.{IsLegal};
+ghost use Rattle.waiting_model.specs.Fitting.{Fits};
+ghost use Rattle.posix_mq.specs.SystemV as system;
+ghost use Rattle.posix_mq.specs.Shown.{history_of};
+ghost use Rattle.posix_mq.specs.Text.{mq_trace_text};
+
 use crate::errno::MqErrno;
 use crate::follow::Follower;
 use crate::show::{push_refused, push_shown};
@@ -66,7 +74,13 @@ pub fn mq_trace(
     given: &Script,
     script: &Script,
     journal: &[Entry],
-) -> Result<Bytes, Memory> {
+) -> Result<Bytes, Memory>
+    requires sound { IsSoundScript given.now }
+    requires runs { script.now ≡ system.system_v given.now }
+    requires legal { IsLegal journal.now }
+    requires fits { Fits script.now journal.now }
+    ensures { IfOk result (λ text. text ≡ mq_trace_text script.now (history_of given.now journal.now)) }
+{
     let mut out = Vec::new(alloc);
     let mut tally = Tally::new();
     let mut follower = Follower::new(alloc)?;
