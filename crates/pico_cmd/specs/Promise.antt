@@ -22,13 +22,15 @@ use Rattle.image_text.specs.Faults as images
 use Rattle.image_text.specs.Parts.{script_of, seen}
 use Rattle.world_model.specs.World.{World}
 use Rattle.world_image.specs.Thaws.{IsThawOf}
+use Rattle.posix_mq.specs.Reading as queues
 use Rattle.pico_words.specs.declared.words.Options.{Options}
 use Rattle.pico_words.specs.declared.words.Request.{Request}
-use Rattle.pico_words.specs.declared.words.Request.TheVariants.{Run, Simulate, Check, Generate, Boxes, Freeze, Thaw}
+use Rattle.pico_words.specs.declared.words.Request.TheVariants.{Run, Simulate, Check, Generate, Boxes, Queues, Freeze, Thaw}
 use Rattle.pico_run.specs.declared.rested.Rested.{Rested}
 use Rattle.pico_cmd.specs.Run.{IsTextOfRun}
 use Rattle.pico_cmd.specs.Threads.{IsTextOfThreads, IsTotalsOfThreads}
 use Rattle.pico_cmd.specs.Boxed.{IsTextOfBoxes}
+use Rattle.pico_cmd.specs.Queued.{IsTextOfQueues}
 use Rattle.pico_cmd.specs.Frozen.{IsFrozen}
 use Rattle.pico_cmd.specs.Thawed.{IsTextOfThaw, IsImageFault}
 use Rattle.pico_cmd.specs.Stalled.{are_left_stalled}
@@ -179,6 +181,31 @@ Thaws image status.BadScript text = IsFaultOf (script_of (seen image)) text
 Thaws image status.BadImage text = IsImageFaultOf image text
 Thaws image _ text = ⊥
 
+-- ---- `mq`
+
+-- The bytes are a script of POSIX message queues, and the text is that of its run with threads, whose outcome is handed
+-- back.
+pub record IsTraceOfQueues (steps : Bool) (bytes text : List ℕ) (rested : List Rested) : Type 0 where
+  pub given : Script
+  pub reads : queues.Reads bytes given
+  pub run : IsTextOfQueues given steps text rested
+
+-- the text names the first fault of the bytes
+pub record IsQueueFaultOf (bytes text : List ℕ) : Type 0 where
+  pub line : ℕ
+  pub fault : ScriptFault
+  pub first : queues.IsFirstFault bytes line fault
+  pub is_text : text ≡ fault_text line fault
+
+-- what goes with a status for these bytes
+abbrev pub RunsQueues : Bool → List ℕ → Status → List ℕ → List Rested → Type 0
+RunsQueues steps bytes status.Done text rested =
+    IsTraceOfQueues steps bytes text rested × (are_left_stalled rested ≡ false)
+RunsQueues steps bytes status.Stalled text rested =
+    IsTraceOfQueues steps bytes text rested × (are_left_stalled rested ≡ true)
+RunsQueues steps bytes status.BadScript text rested = IsQueueFaultOf bytes text × (rested ≡ [])
+RunsQueues steps bytes _ text rested = ⊥
+
 -- ---- each mode
 
 -- What goes with a status for what is asked for and the bytes that the source had, with the outcomes of the runs with
@@ -191,6 +218,7 @@ Answers (Generate options) bytes status.Done text rested =
     IsTotalsOfThreads (generated options.seed) options.steps text rested × (are_left_stalled rested ≡ false)
 Answers (Generate options) bytes _ text rested = ⊥
 Answers Boxes bytes s text rested = RunsBoxes bytes s text rested
+Answers (Queues steps) bytes s text rested = RunsQueues steps bytes s text rested
 Answers (Freeze count) bytes s text rested = Freezes count bytes s text × (rested ≡ [])
 Answers Thaw bytes s text rested = Thaws bytes s text × (rested ≡ [])
 
@@ -258,6 +286,12 @@ CauseOfThaw image status.BadScript =
 CauseOfThaw image status.BadImage = (line : ℕ) × (fault : ImageFault) × IsImageFault image line fault
 CauseOfThaw image _ = ⊥
 
+-- what makes `mq` end so
+abbrev pub CauseOfQueues : List ℕ → Status → Type 0
+CauseOfQueues bytes status.Done = (given : Script) × queues.Reads bytes given
+CauseOfQueues bytes status.BadScript = (line : ℕ) × (fault : ScriptFault) × queues.IsFirstFault bytes line fault
+CauseOfQueues bytes _ = ⊥
+
 -- what makes the answer have a status, but for want of memory and for reads and writes that fail
 abbrev pub Cause : Request → List ℕ → Status → Type 0
 Cause (Run steps) bytes s = CauseOfSim bytes s
@@ -265,6 +299,7 @@ Cause (Simulate options) bytes s = CauseOfSim bytes s
 Cause Check bytes s = CauseOfCheck (take (most_read Check) bytes) s
 Cause (Generate options) bytes s = CauseOfGen s
 Cause Boxes bytes s = CauseOfBoxes bytes s
+Cause (Queues steps) bytes s = CauseOfQueues bytes s
 Cause (Freeze count) bytes s = CauseOfSim bytes s
 Cause Thaw bytes s = CauseOfThaw bytes s
 

@@ -2,7 +2,7 @@
 use Rattle.std.specs.Prelude.{◌≡◌, ◌⊎◌, ◌≤◌, ◌<◌, ◌+◌, ℕ, List, length, take, drop, Option, Some, None}
 use Rattle.host_iface.specs.Faults.{HasRisen}
 use Rattle.pico_words.specs.declared.words.Request.{Request}
-use Rattle.pico_words.specs.declared.words.Request.TheVariants.{Run, Simulate, Check, Generate, Boxes, Freeze, Thaw}
+use Rattle.pico_words.specs.declared.words.Request.TheVariants.{Run, Simulate, Check, Generate, Boxes, Queues, Freeze, Thaw}
 use Rattle.pico_cmd.specs.declared.program.Stop.{Stop}
 use Rattle.pico_cmd.specs.declared.program.Stop.TheVariants.{Memory, ReadFault}
 
@@ -36,6 +36,7 @@ most_read (Simulate options) = 1048577
 most_read Check = 68161538
 most_read (Generate options) = 0
 most_read Boxes = 1048577
+most_read (Queues steps) = 1048577
 most_read (Freeze count) = 1048577
 most_read Thaw = 16777217
 
@@ -46,6 +47,7 @@ Reads (Some (Simulate options)) = Unit {0}
 Reads (Some Check) = Unit {0}
 Reads (Some (Generate options)) = ⊥
 Reads (Some Boxes) = Unit {0}
+Reads (Some (Queues steps)) = Unit {0}
 Reads (Some (Freeze count)) = Unit {0}
 Reads (Some Thaw) = Unit {0}
 Reads None = ⊥

@@ -189,7 +189,15 @@ fn run_queues<R: Threads + Wait + Sync, S: Source, G: Gate>(
     steps: bool,
     source: &mut S,
     gate: &G,
-) -> Result<Answer, Stop> {
+) -> Result<Answer, Stop>
+    ensures answer { IfOk result
+        (λ answer. AnswersTold (Request.Queues steps) (S.left source.old) answer.status answer.text answer.rested) }
+    ensures causes { EachCause (Some (Request.Queues steps)) (S.left source.old)
+        (λ s. IfOk result (λ answer. answer.status ≡ s)) }
+    ensures rest { OnOk result (S.left source.new ≡ left_behind 1048577 (S.left source.old)) }
+    ensures calm { OnOk result (S.faults source.new ≡ S.faults source.old) }
+    ensures stop { IfErr result (IsStop (S.faults source.old) (S.faults source.new)) }
+{
     let bytes = bytes_up_to(alloc, source, MAX_SCRIPT)?;
     Ok(answer_to_queues(rt, alloc, bytes.as_slice(), steps, gate)?)
 }

@@ -1,5 +1,11 @@
 //! The answer to a script of POSIX message queues.
 
+ghost use Rattle.std.specs.Prelude.{◌≡◌, ◌⊎◌, ℕ, IfOk};
+ghost use Rattle.pico_base.specs.declared.script.Script.{Script as ScriptValue};
+ghost use Rattle.script_reader.specs.declared.fault.ScriptFault.{ScriptFault as FaultValue};
+ghost use Rattle.posix_mq.specs.Reading.{IsFirstFault, Reads};
+ghost use Rattle.pico_cmd.specs.Promise.{RunsQueues};
+
 use crate::answer::{Answer, text_of_fault};
 use crate::laws::laws;
 use crate::stalled::{is_left_stalled, status_left};
@@ -47,7 +53,13 @@ pub fn answer_to_queues<R: Threads + Wait + Sync, G: Gate>(
     bytes: &[u8],
     steps: bool,
     gate: &G,
-) -> Result<Answer, Memory> {
+) -> Result<Answer, Memory>
+    ensures answer { IfOk result (λ answer. RunsQueues steps bytes.now answer.status answer.text answer.rested) }
+    ensures done { (given : ScriptValue) → Reads bytes.now given
+        → IfOk result (λ answer. (answer.status ≡ Status.Done) ⊎ (answer.status ≡ Status.Stalled)) }
+    ensures fault { (line : ℕ) (fault : FaultValue) → IsFirstFault bytes.now line fault
+        → IfOk result (λ answer. answer.status ≡ Status.BadScript) }
+{
     match read_mq(alloc, bytes) {
         Ok(script) => run_given(rt, alloc, script, steps, gate),
         Err(ScriptStop::At { line, fault }) => Ok(Answer {

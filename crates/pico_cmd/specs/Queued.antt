@@ -1,0 +1,23 @@
+-- What a run of a script of POSIX message queues comes to.
+use Rattle.std.specs.Prelude.{◌≡◌, ℕ, Bool, List, [], ◌∷◌, ◌++◌}
+use Rattle.pico_base.specs.declared.script.Script.{Script}
+use Rattle.posix_mq.specs.Fitting.{FitsWhole}
+use Rattle.posix_mq.specs.History.{IsLegal}
+use Rattle.posix_mq.specs.Shown.{history_of}
+use Rattle.posix_mq.specs.SystemV.{system_v}
+use Rattle.posix_mq.specs.Text.{mq_trace_text}
+use Rattle.pico_run.specs.declared.rested.Rested.{Rested}
+use Rattle.pico_cmd.specs.Run.{steps_if}
+use Rattle.pico_cmd.specs.Threads.{IsOneHistory, entries_in, events_in}
+
+-- The outcome of one run of the script of System V is handed back. What its journal stands for, entry by entry and by
+-- the same nodes, is legal as a history of POSIX message queues and fits the given script whole, and is the text, with
+-- the events behind it where they are wanted.
+pub record IsTextOfQueues (given : Script) (steps : Bool) (text : List ℕ) (rested : List Rested) : Type 0 where
+  pub one : Rested
+  pub handed : rested ≡ one ∷ []
+  pub run : IsOneHistory (system_v given) one
+  pub legal : IsLegal (history_of given (entries_in one))
+  pub fits : FitsWhole given (history_of given (entries_in one))
+  pub is_text : text
+      ≡ mq_trace_text (system_v given) (history_of given (entries_in one)) ++ steps_if steps (events_in one)
