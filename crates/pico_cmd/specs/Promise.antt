@@ -22,7 +22,7 @@ use Rattle.image_text.specs.Faults as images
 use Rattle.image_text.specs.Parts.{script_of, seen}
 use Rattle.world_model.specs.World.{World}
 use Rattle.world_image.specs.Thaws.{IsThawOf}
-use Rattle.posix_mq.specs.Reading as queues
+use Rattle.mq_model.specs.Reading as queues
 use Rattle.pico_words.specs.declared.words.Options.{Options}
 use Rattle.pico_words.specs.declared.words.Request.{Request}
 use Rattle.pico_words.specs.declared.words.Request.TheVariants.{Run, Simulate, Check, Generate, Boxes, Queues, Freeze, Thaw}

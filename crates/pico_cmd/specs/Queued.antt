@@ -1,11 +1,11 @@
 -- What a run of a script of POSIX message queues comes to.
 use Rattle.std.specs.Prelude.{◌≡◌, ℕ, Bool, List, [], ◌∷◌, ◌++◌}
 use Rattle.pico_base.specs.declared.script.Script.{Script}
-use Rattle.posix_mq.specs.Fitting.{FitsWhole}
-use Rattle.posix_mq.specs.History.{IsLegal}
-use Rattle.posix_mq.specs.Shown.{history_of}
-use Rattle.posix_mq.specs.SystemV.{system_v}
-use Rattle.posix_mq.specs.Text.{mq_trace_text}
+use Rattle.mq_model.specs.Fitting.{FitsWhole}
+use Rattle.mq_model.specs.History.{IsLegal}
+use Rattle.mq_model.specs.Shown.{history_of}
+use Rattle.mq_model.specs.SystemV.{system_v}
+use Rattle.mq_model.specs.Text.{mq_trace_text}
 use Rattle.pico_run.specs.declared.rested.Rested.{Rested}
 use Rattle.pico_cmd.specs.Run.{steps_if}
 use Rattle.pico_cmd.specs.Threads.{IsOneHistory, entries_in, events_in}

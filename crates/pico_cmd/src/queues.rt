@@ -3,7 +3,7 @@
 ghost use Rattle.std.specs.Prelude.{◌≡◌, ◌⊎◌, ℕ, IfOk};
 ghost use Rattle.pico_base.specs.declared.script.Script.{Script as ScriptValue};
 ghost use Rattle.script_reader.specs.declared.fault.ScriptFault.{ScriptFault as FaultValue};
-ghost use Rattle.posix_mq.specs.Reading.{IsFirstFault, Reads};
+ghost use Rattle.mq_model.specs.Reading.{IsFirstFault, Reads};
 ghost use Rattle.pico_cmd.specs.Promise.{RunsQueues};
 
 use crate::answer::{Answer, text_of_fault};

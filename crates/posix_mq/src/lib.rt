@@ -2,7 +2,6 @@
 //! is told as one of theirs.
 #![tactic(auto)]
 
-mod errno;
 mod follow;
 mod read;
 mod show;
@@ -11,6 +10,6 @@ mod system_v;
 mod text;
 mod words;
 
-pub use errno::MqErrno;
+pub use mq_model::MqErrno;
 pub use read::{MqScript, read_mq};
 pub use text::mq_trace;

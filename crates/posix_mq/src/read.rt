@@ -4,8 +4,8 @@ ghost use Rattle.std.specs.Prelude.{◌≡◌, ◌⊎◌, ℕ, IfOk, IfErr, Ok, 
 ghost use Rattle.pico_base.specs.declared.script.Script.{Script as ScriptValue};
 ghost use Rattle.script_reader.specs.declared.fault.ScriptFault.{ScriptFault as FaultValue};
 ghost use Rattle.kernel_model.specs.Script.{IsSoundScript};
-ghost use Rattle.posix_mq.specs.Reading.{HasFault, IsFirstFault, Reads};
-ghost use Rattle.posix_mq.specs.SystemV as system;
+ghost use Rattle.mq_model.specs.Reading.{HasFault, IsFirstFault, Reads};
+ghost use Rattle.mq_model.specs.SystemV as system;
 
 use crate::stand_in::StandIn;
 use crate::system_v::system_v;

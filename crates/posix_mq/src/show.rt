@@ -5,10 +5,10 @@ ghost use Rattle.std.specs.List.{flat_map};
 ghost use Rattle.std.specs.Fmt.{signed_decimal};
 ghost use Rattle.kernel_model.specs.Texts.{message_text};
 ghost use Rattle.kernel_model.specs.Trace.{create_words, by_text, wake_text, labelled};
-ghost use Rattle.posix_mq.specs.SystemV as system;
-ghost use Rattle.posix_mq.specs.Text as text;
+ghost use Rattle.mq_model.specs.SystemV as system;
+ghost use Rattle.mq_model.specs.Text as text;
 
-use crate::errno::MqErrno;
+use mq_model::MqErrno;
 use crate::system_v::turned;
 use pico_base::{Bytes, Call, Entry, Errno, Id, Memory, Pid, Reply, Script};
 use std::alloc::Global;

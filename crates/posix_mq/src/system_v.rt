@@ -2,9 +2,9 @@
 
 ghost use Rattle.std.specs.Prelude.{◌≡◌, negsuc, false, true, IfOk};
 ghost use Rattle.pico_base.specs.declared.call.Call.TheVariants as calls;
-ghost use Rattle.posix_mq.specs.SystemV as spec;
+ghost use Rattle.mq_model.specs.SystemV as spec;
 
-use crate::errno::MqErrno;
+use mq_model::MqErrno;
 use pico_base::{Block, Bytes, Call, Errno, Id, Line, Memory, Script, Sequence};
 use std::alloc::Global;
 

@@ -4,11 +4,11 @@ ghost use Rattle.std.specs.Prelude.{◌≡◌, IfOk};
 ghost use Rattle.kernel_model.specs.Script.{IsSoundScript};
 ghost use Rattle.waiting_model.specs.History.{IsLegal};
 ghost use Rattle.waiting_model.specs.Fitting.{Fits};
-ghost use Rattle.posix_mq.specs.SystemV as system;
-ghost use Rattle.posix_mq.specs.Shown.{history_of};
-ghost use Rattle.posix_mq.specs.Text.{mq_trace_text};
+ghost use Rattle.mq_model.specs.SystemV as system;
+ghost use Rattle.mq_model.specs.Shown.{history_of};
+ghost use Rattle.mq_model.specs.Text.{mq_trace_text};
 
-use crate::errno::MqErrno;
+use mq_model::MqErrno;
 use crate::follow::Follower;
 use crate::show::{push_refused, push_shown};
 use crate::system_v::unfit;

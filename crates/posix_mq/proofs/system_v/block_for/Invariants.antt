@@ -1,5 +1,5 @@
 use Rattle.std.proofs.Common.{◌≡◌, take, map}
-use Rattle.posix_mq.specs.SystemV as spec
+use Rattle.mq_model.specs.SystemV as spec
 use Rattle.posix_mq.proofs.system_v.block_for.Given as goal
 
 -- so far

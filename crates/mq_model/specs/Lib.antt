@@ -5,7 +5,9 @@ pub mod Transition
 pub mod History
 pub mod Text
 pub mod Reading
+pub mod Given
 pub mod SystemV
+pub mod Lines
 pub mod Fitting
 pub mod Shown
 pub mod Examples

@@ -14,11 +14,11 @@ use Rattle.waiting_model.specs.Kernel as plain
 use Rattle.waiting_model.specs.Kernel.{Process, living_in, change_living}
 use Rattle.waiting_model.specs.Marks.{Alive, after_reply, spent}
 use Rattle.waiting_model.specs.Transition as plain_steps
-use Rattle.posix_mq.specs.declared.errno.MqErrno.{MqErrno}
-use Rattle.posix_mq.specs.declared.errno.MqErrno.TheVariants.{Base, Ebadf, Emsgsize}
-use Rattle.posix_mq.specs.Queue.{Queue, Message, max_messages, max_text, max_priority, with_message, oldest_of_highest}
-use Rattle.posix_mq.specs.Calls.{MqCall, Open, Send, Receive, GetAttr, Other, MqReply, Number, Taken, Attributes, Refused, Plain, MqOutcome}
-use Rattle.posix_mq.specs.Kernel.{MqKernel, without_queues, beside}
+use Rattle.mq_model.specs.declared.errno.MqErrno.{MqErrno}
+use Rattle.mq_model.specs.declared.errno.MqErrno.TheVariants.{Base, Ebadf, Emsgsize}
+use Rattle.mq_model.specs.Queue.{Queue, Message, max_messages, max_text, max_priority, with_message, oldest_of_highest}
+use Rattle.mq_model.specs.Calls.{MqCall, Open, Send, Receive, GetAttr, Other, MqReply, Number, Taken, Attributes, Refused, Plain, MqOutcome}
+use Rattle.mq_model.specs.Kernel.{MqKernel, without_queues, beside}
 
 -- ---- the calls on queues
 

@@ -6,7 +6,7 @@ use Rattle.waiting_model.specs.Kernel as plain
 use Rattle.waiting_model.specs.Kernel.{Process}
 use Rattle.waiting_model.specs.Marks.{new_alive}
 use Rattle.waiting_model.specs.Waiters.{Awaited}
-use Rattle.posix_mq.specs.Queue.{Queue}
+use Rattle.mq_model.specs.Queue.{Queue}
 
 -- Processes, queues and sets by number, the numbers of the names of queues, the identifiers of the keys of sets, and
 -- the numbers used so far of each kind.

@@ -10,9 +10,9 @@ use Rattle.pico_base.specs.declared.reply.Errno.TheVariants.{Esrch, Einval, Echi
 use Rattle.pico_base.specs.declared.script.Script.{Script}
 use Rattle.kernel_model.specs.Texts.{message_text}
 use Rattle.kernel_model.specs.Trace.{call_text, reply_text, error_name as plain_error_name, create_words, labelled, by_text, is_fork, is_not_ready, is_not_ready_reply, is_refused_reply, entries_total, processes_total, not_ready_total, refused_total}
-use Rattle.posix_mq.specs.declared.errno.MqErrno.{MqErrno}
-use Rattle.posix_mq.specs.declared.errno.MqErrno.TheVariants.{Base, Ebadf, Emsgsize}
-use Rattle.posix_mq.specs.Calls.{MqCall, Open, Send, Receive, GetAttr, Other, MqReply, Number, Taken, Attributes, Refused, Plain, MqOutcome, MqEntry}
+use Rattle.mq_model.specs.declared.errno.MqErrno.{MqErrno}
+use Rattle.mq_model.specs.declared.errno.MqErrno.TheVariants.{Base, Ebadf, Emsgsize}
+use Rattle.mq_model.specs.Calls.{MqCall, Open, Send, Receive, GetAttr, Other, MqReply, Number, Taken, Attributes, Refused, Plain, MqOutcome, MqEntry}
 
 abbrev pub error_name : MqErrno → List ℕ
 error_name (Base e) = plain_error_name e

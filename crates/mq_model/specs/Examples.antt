@@ -9,11 +9,11 @@ use Rattle.pico_base.specs.declared.reply.Reply.TheVariants.{Num, Child, Ended}
 use Rattle.pico_base.specs.declared.reply.Ending.TheVariants.{Exited}
 use Rattle.pico_base.specs.declared.signal.Sig.TheVariants.{Term}
 use Rattle.pico_base.specs.declared.signal.SigArg.TheVariants.{Is}
-use Rattle.posix_mq.specs.declared.errno.MqErrno.{MqErrno}
-use Rattle.posix_mq.specs.declared.errno.MqErrno.TheVariants.{Base, Ebadf, Emsgsize}
-use Rattle.posix_mq.specs.Calls.{MqCall, Open, Send, Receive, GetAttr, Other, MqReply, Number, Taken, Attributes, Refused, Plain, MqOutcome}
-use Rattle.posix_mq.specs.Kernel.{MqKernel, opening}
-use Rattle.posix_mq.specs.Transition.{MqSuccessor, mq_transition}
+use Rattle.mq_model.specs.declared.errno.MqErrno.{MqErrno}
+use Rattle.mq_model.specs.declared.errno.MqErrno.TheVariants.{Base, Ebadf, Emsgsize}
+use Rattle.mq_model.specs.Calls.{MqCall, Open, Send, Receive, GetAttr, Other, MqReply, Number, Taken, Attributes, Refused, Plain, MqOutcome}
+use Rattle.mq_model.specs.Kernel.{MqKernel, opening}
+use Rattle.mq_model.specs.Transition.{MqSuccessor, mq_transition}
 
 -- what a process makes, and the number for what it may create
 pub record Made : Type 0 where

@@ -1,7 +1,7 @@
 //! The errors of calls on POSIX message queues.
 
 ghost use Rattle.std.specs.Prelude.{◌≡◌};
-ghost use Rattle.posix_mq.specs.Text.{error_name, error_number};
+ghost use Rattle.mq_model.specs.Text.{error_name, error_number};
 
 use pico_base::Errno;
 

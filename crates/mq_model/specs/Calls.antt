@@ -2,7 +2,7 @@
 use Rattle.std.specs.Prelude.{ℕ, Bool, List, Option}
 use Rattle.pico_base.specs.declared.call.Call.{Call}
 use Rattle.pico_base.specs.declared.reply.Reply.{Reply}
-use Rattle.posix_mq.specs.declared.errno.MqErrno.{MqErrno}
+use Rattle.mq_model.specs.declared.errno.MqErrno.{MqErrno}
 
 -- The calls on queues: `mqopen /N [create] [excl]`, `mqsend Q P X`, `mqreceive Q Z` and `mqgetattr Q`. Any other is one
 -- that does without queues.

@@ -2,9 +2,9 @@
 -- at its point.
 use Rattle.std.specs.Prelude.{◌≡◌, ℕ, List, [], ◌∷◌, Option, Some}
 use Rattle.pico_base.specs.declared.reply.Reply.TheVariants.{Num}
-use Rattle.posix_mq.specs.Calls.{MqEntry, MqReply, Number, Plain}
-use Rattle.posix_mq.specs.Kernel.{MqKernel, opening}
-use Rattle.posix_mq.specs.Transition.{mq_transition, successor}
+use Rattle.mq_model.specs.Calls.{MqEntry, MqReply, Number, Plain}
+use Rattle.mq_model.specs.Kernel.{MqKernel, opening}
+use Rattle.mq_model.specs.Transition.{mq_transition, successor}
 
 -- the number that an entry may have created: the one in its reply, and else 0
 abbrev pub number_in : Option MqReply → ℕ

@@ -7,8 +7,8 @@ use Rattle.pico_base.specs.declared.script.Script.{Script}
 use Rattle.number_maps.specs.Maps.{get}
 use Rattle.kernel_model.specs.Fitting.{due}
 use Rattle.waiting_model.specs.Fitting.{Places, Progress, opening_places, places_after}
-use Rattle.posix_mq.specs.Calls.{MqEntry}
-use Rattle.posix_mq.specs.SystemV.{shown}
+use Rattle.mq_model.specs.Calls.{MqEntry}
+use Rattle.mq_model.specs.SystemV.{shown}
 
 -- the call of the given script that is due for a process
 abbrev pub due_in : Option Progress → Option Call

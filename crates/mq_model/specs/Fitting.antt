@@ -12,9 +12,9 @@ use Rattle.pico_base.specs.declared.reply.Reply.{Reply}
 use Rattle.pico_base.specs.declared.reply.Reply.TheVariants as replies
 use Rattle.pico_base.specs.declared.script.Script.{Script}
 use Rattle.waiting_model.specs.Fitting as plain
-use Rattle.posix_mq.specs.declared.errno.MqErrno.{MqErrno}
-use Rattle.posix_mq.specs.declared.errno.MqErrno.TheVariants.{Base, Ebadf, Emsgsize}
-use Rattle.posix_mq.specs.Calls.{MqCall, Open, Send, Receive, GetAttr, Other, MqReply, Number, Taken, Attributes, Refused, Plain, MqOutcome, MqEntry}
+use Rattle.mq_model.specs.declared.errno.MqErrno.{MqErrno}
+use Rattle.mq_model.specs.declared.errno.MqErrno.TheVariants.{Base, Ebadf, Emsgsize}
+use Rattle.mq_model.specs.Calls.{MqCall, Open, Send, Receive, GetAttr, Other, MqReply, Number, Taken, Attributes, Refused, Plain, MqOutcome, MqEntry}
 
 -- the calls and replies as a given script has them in System V's words
 

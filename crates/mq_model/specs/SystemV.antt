@@ -13,10 +13,10 @@ use Rattle.pico_base.specs.declared.reply.Entry.{Entry}
 use Rattle.pico_base.specs.declared.script.Line.{Line}
 use Rattle.pico_base.specs.declared.script.Block.{Block}
 use Rattle.pico_base.specs.declared.script.Script.{Script}
-use Rattle.posix_mq.specs.declared.errno.MqErrno.{MqErrno}
-use Rattle.posix_mq.specs.declared.errno.MqErrno.TheVariants.{Base, Ebadf, Emsgsize}
-use Rattle.posix_mq.specs.Queue.{max_priority, max_text}
-use Rattle.posix_mq.specs.Calls.{MqCall, Open, Send, Receive, GetAttr, Other, MqReply, Number, Taken, Attributes, Refused, Plain, MqOutcome, MqEntry}
+use Rattle.mq_model.specs.declared.errno.MqErrno.{MqErrno}
+use Rattle.mq_model.specs.declared.errno.MqErrno.TheVariants.{Base, Ebadf, Emsgsize}
+use Rattle.mq_model.specs.Queue.{max_priority, max_text}
+use Rattle.mq_model.specs.Calls.{MqCall, Open, Send, Receive, GetAttr, Other, MqReply, Number, Taken, Attributes, Refused, Plain, MqOutcome, MqEntry}
 
 -- ---- scripts
 
