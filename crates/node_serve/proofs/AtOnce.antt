@@ -193,11 +193,13 @@ goes-on {V} try object new who reply nobody still gives =
     ∙ carried-as try object.state who (record { left = new.state; reply = reply }) gives
     ∙ ap (λ (ws : List Waiting). replied_alone (awaited new.state ws) reply) (sym still)
 
+-- a send or a receive that goes on where nobody waits
 pub queue-goes-on : (q new : Awaited Queue) (who : Waiting) (reply : Reply) → q.waiters ≡ [] → new.waiters ≡ []
     → try_queue q.state who.pid who.call ≡ Some (attempt new.state reply)
     → carry_out_on_queue q who ≡ replied_alone new reply
 queue-goes-on q new who reply nobody still gives = goes-on try_queue q new who reply nobody still gives
 
+-- a semop that goes on where nobody waits
 pub operates : (s new : Awaited SemaphoreSet) (caller ticket pid id : ℕ) (steps : List SemStep) (reply : Reply)
     → s.waiters ≡ [] → new.waiters ≡ [] → try_op s.state pid steps ≡ Some (attempt new.state reply)
     → carry_out_on_set s (waiter_in caller ticket pid (calls.SemOp id steps)) ≡ replied_alone new reply
@@ -210,6 +212,7 @@ pub operated : (s new : SemaphoreSet) (pid : ℕ) (steps : List SemStep) → lis
 operated s new pid steps none does =
     op-tried s pid steps none ∙ ap (λ (r : Result SemaphoreSet Errno). tried_as (change s r)) does
 
+-- operations of which none may wait, and which are refused
 pub refuses-to-operate : (s : SemaphoreSet) (pid : ℕ) (steps : List SemStep) (e : Errno)
     → list_any may_wait steps ≡ false → op s pid steps ≡ Err e → try_op s pid steps ≡ Some (attempt s (Fail e))
 refuses-to-operate s pid steps e none does =

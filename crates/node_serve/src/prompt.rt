@@ -162,7 +162,8 @@ fn operate(set: &mut SemSet, pid: Pid, steps: &[SemStep]) -> Replied
 #[inline(always)]
 fn on_set(set: &mut SemSet, id: Id, who: &Who, call: &Call) -> Option<Replied>
     requires nobody { set.old.waiters ≡ [] }
-    ensures { PromptOr (Name.Sem id) (Carried.Set set.old) (waiting_with who.now call.now) (Carried.Set set.new) result }
+    ensures { PromptOr (Name.Sem id) (Carried.Set set.old)
+        (waiting_with who.now call.now) (Carried.Set set.new) result }
 {
     match call {
         Call::SemOp { id: at, steps } => {
@@ -221,9 +222,9 @@ fn on_body(
     }
 }
 
-/// A send, a receive or a semop has its reply at once where its queue or set is held, nobody waits there, and it needn't
-/// wait. None: it is another call, or on another name, or may have to wait; nothing has changed. Where memory is refused
-/// nothing is said of what is left.
+/// A send, a receive or a semop has its reply at once where its queue or set is held, nobody waits there, and it
+/// needn't wait. None: it is another call, or on another name, or may have to wait; nothing has changed. Where memory
+/// is refused nothing is said of what is left.
 #[inline(never)]
 pub fn reply_at_once(
     alloc: Global,

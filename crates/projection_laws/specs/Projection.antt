@@ -352,8 +352,8 @@ pub record GoesToNobody (w : World) (n : Node) (call : Call) : Type 0 where
   pub leaves : stays leader.leader.directory node ≡ false
   pub unknown : is_known leader.leader.directory (waits_at n.pid call) ≡ false
 
--- A call without a reply that may have to wait: each withdrawal of it is of a process that a signal has struck; and of a
--- process that is doomed there is exactly one, or none is needed. (A `waitpid` is interrupted at its caller, without
+-- A call without a reply that may have to wait: each withdrawal of it is of a process that a signal has struck; and of
+-- a process that is doomed there is exactly one, or none is needed. (A `waitpid` is interrupted at its caller, without
 -- any.)
 pub record IsInterruptedRightly (w : World) (k : Kernel) (n : Node) (call : Call) (alive : Alive) : Type 0 where
   pub struck : 1 ≤ cancels_of w n → alive.marks.struck ≡ true

@@ -104,12 +104,14 @@ acts script s name call who held left own wakes reads readers deeds by served =
 
 -- ---- a step that is as it was
 
+-- a call that is answered in the same step is answered as before
 pub as-before : {E : Type 0} (r : Result Unit E) (script : Script) (s t new : Step) (name : Name) (asked : Asked)
     → t ≡ s
     → OnOk r (serve_asked script t name asked ≡ Some new) → OnOk r (serve_asked script s name asked ≡ Some new)
 as-before r script s t new name asked same served =
     subst (λ (u : Step). OnOk r (serve_asked script u name asked ≡ Some new)) same served
 
+-- and so is one that its own node starts
 pub started-as-before : {E : Type 0} (r : Result Unit E) (script : Script) (s t new : Step) (name : Name) (call : Call)
     → t ≡ s
     → OnOk r (serve_asked script (started t call) name (asked_here (started t call).node call) ≡ Some new)

@@ -66,8 +66,8 @@ fn trace_of(alloc: Global, world: &World) -> Result<String, Memory>
     Ok(String::from_utf8_lossy(alloc, trace.as_slice())?)
 }
 
-// The trace that the events of the row leave, whether no event may come then, and whether a process waits for good then;
-// in place of a trace it is said where one of them may not come when it comes.
+// The trace that the events of the row leave, whether no event may come then, and whether a process waits for good
+// then; in place of a trace it is said where one of them may not come when it comes.
 fn trace_after(alloc: Global, row: &Row) -> Result<(String, bool, bool), Fail> {
     let script = read_script(alloc, row.script.as_bytes())?;
     let events = events_of(alloc, row.events)?;

@@ -765,7 +765,8 @@ module _ (script : Script) (sound : IsSoundScript script) (w : World) (b : Besid
       ap (λ (m : Node). m.caller.ticket) changes.here ∙ is-answered.ticket_is
       in cancel-over 1 Nothing Nothing (cancel_sight w [] b 1) (cancel_sight w2 [] first_over 1)
       (old-still script 1 w w2 now [] [] (entry ∷ []) changes [] [] b first_over 1
-      (sym (ap (λ (m : Node). m.pid) changes.here)) (next-later n.caller (let m : Node = node_of w2 1 in m.caller) (omega (arith, ticket)))
+      (sym (ap (λ (m : Node). m.pid) changes.here))
+      (next-later n.caller (let m : Node = node_of w2 1 in m.caller) (omega (arith, ticket)))
       (held-same (is_held_cancel_of 1)) refl tt tt)
       (starts-uncancelled script w b holds 1 low high s) (inl none-now) (λ owed. absurd (false≢true owed))
       (holds.cancels 1 low high)

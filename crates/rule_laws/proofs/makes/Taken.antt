@@ -218,6 +218,7 @@ module _ (script : Script) (w : World) (b : Beside) (holds : Holds script w [] b
         (old-still script p w next n (takes_by kind o) sends entries c [] [] b (made b') p
         (sym (ap (λ (m : Node). m.pid) c.here ∙ process))
         (over-later (let m : Node = node_of w p in m.caller) (let m : Node = node_of next p in m.caller)
-        (omega (arith, ticket, older)) free) (λ m. ap (filter (is_held_cancel_of p)) (a.held m)) refl (taken-no-cancel kind o p) none)
+        (omega (arith, ticket, older)) free)
+        (λ m. ap (filter (is_held_cancel_of p)) (a.held m)) refl (taken-no-cancel kind o p) none)
         (cancel ∙ s.uncancelled) (inl free) (λ owed. absurd (false≢true owed))
         (holds.cancels p s.low s.high)
