@@ -33,18 +33,21 @@ pub record IsOther (c : FromCall) : Type 0 where
   pub no_exit : model.is_exit c.1 ≡ false
   pub no_fork : model.is_fork c.1 ≡ false
 
-either : (o : Option ℕ) → cond (is_some o) true true ≡ true
+-- a test that passes either way
+pub either : (o : Option ℕ) → cond (is_some o) true true ≡ true
 either None = refl
 either (Some v) = refl
 
-u32 : (n : ℕ) → n < 2 ^ 32 → is_u32 n ≡ true
+-- a number below its type's bound is in the range
+pub u32 : (n : ℕ) → n < 2 ^ 32 → is_u32 n ≡ true
 u32 n h = lt-ltb n (2 ^ 32) h
 
-u16 : (n : ℕ) → n ≤ 65535 → is_u16 n ≡ true
+-- and one up to the greatest
+pub u16 : (n : ℕ) → n ≤ 65535 → is_u16 n ≡ true
 u16 n h = le-leb n 65535 h
 
 -- a call on an identifier, which is in its range with it
-shared : (o : Object) (call : Call) → IsObject o → model.is_in_range call ≡ true
+pub shared : (o : Object) (call : Call) → IsObject o → model.is_in_range call ≡ true
     → cond (is_some o.0) (model.can_name call) (model.is_process_in_range call) ≡ true → model.is_exit call ≡ false
     → model.is_fork call ≡ false → IsOther (o.0, call)
 shared o call h range named exit fork =
@@ -179,7 +182,8 @@ waitpid_fits (w ∷ more) =
 
 -- ---- message queues
 
-key_fits : (k : ℕ) → (1 ≤ k) × (k ≤ 4294967295) → is_positive_u32 k ≡ true
+-- a key that isn't 0
+pub key_fits : (k : ℕ) → (1 ≤ k) × (k ≤ 4294967295) → is_positive_u32 k ≡ true
 key_fits k h = and_from (ltb 0 k) (is_u32 k) (lt-ltb 0 k (omega (arith, h.0))) (u32 k (omega (arith, h.1)))
 
 keyed_queue_fits : (k : List ℕ) (more : List (List ℕ)) → IfSome (forms.keyed_queue k more) IsOther

@@ -1,7 +1,7 @@
 pub mod Lines
 pub mod Cuts
 pub mod Openings
-pub mod Names
+pub mod Mentions
 pub mod Each
 pub mod Lanes
 pub mod Marked

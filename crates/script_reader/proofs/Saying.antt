@@ -38,21 +38,22 @@ IsFine names o (Forks set number) = (model.is_variable set ≡ true) × IsForkOf
 IsFine names o (Calls line) = (model.is_line line ≡ true) × (model.is_fork line.call ≡ false)
 IsFine names o said = Unit {0}
 
-fine_cond : (names : List (List ℕ)) (o : Option (List ℕ)) (b : Bool) (x y : Said) → (b ≡ true → IsFine names o x)
+-- either of two lines, by a test
+pub fine_cond : (names : List (List ℕ)) (o : Option (List ℕ)) (b : Bool) (x y : Said) → (b ≡ true → IsFine names o x)
     → IsFine names o y → IsFine names o (cond b x y)
 fine_cond names o true x y f g = f refl
 fine_cond names o false x y f g = g
 
 -- ---- in front of a call
 
-abbrev IsSet : Option ℕ → Type 0
+abbrev pub IsSet : Option ℕ → Type 0
 IsSet set = model.is_variable set ≡ true
 
-abbrev IsTries : Option ℕ → Type 0
+abbrev pub IsTries : Option ℕ → Type 0
 IsTries tries = (leb 1 (unwrap_or tries 1) && leb (unwrap_or tries 1) 20000) ≡ true
 
 -- what is said of what a front gives, where it isn't wrong
-abbrev IfGives : Front ℕ → (Option ℕ → Type 0) → Type 0
+abbrev pub IfGives : Front ℕ → (Option ℕ → Type 0) → Type 0
 IfGives Wrong P = Unit {0}
 IfGives (Gives value) P = P value
 
@@ -67,7 +68,8 @@ front_cond : (P : Option ℕ → Type 0) (n : ℕ) (b : Bool) (x y : Front ℕ �
 front_cond P n true x y f g = f
 front_cond P n false x y f g = g
 
-set_fits : (ws : List (List ℕ)) → IfGives (says.set_at ws).0 IsSet × (width (says.set_at ws).1 ≤ width ws)
+-- `VAR =` names a variable, and leaves no more words
+pub set_fits : (ws : List (List ℕ)) → IfGives (says.set_at ws).0 IsSet × (width (says.set_at ws).1 ≤ width ws)
 unfolding says.set_at
 set_fits [] = (refl, omega arith)
 set_fits (v ∷ []) = (refl, omega arith)
@@ -77,7 +79,8 @@ set_fits (v ∷ e ∷ ws) =
     (if_given (variable v) (λ v. v ≤ 2885) IsSet (variable_small v) (λ v h. le-leb v 2885 h), omega arith)
     (refl, omega arith)
 
-tries_fit : (ws : List (List ℕ)) → IfGives (says.tries_at ws).0 IsTries × (width (says.tries_at ws).1 ≤ width ws)
+-- `try N` is within its range, and leaves no more words
+pub tries_fit : (ws : List (List ℕ)) → IfGives (says.tries_at ws).0 IsTries × (width (says.tries_at ws).1 ≤ width ws)
 unfolding says.tries_at
 tries_fit [] = (refl, omega arith)
 tries_fit (t ∷ []) =
@@ -161,7 +164,8 @@ not_both : (a b : Bool) → b ≡ false → not (a && b) ≡ true
 not_both true b e = rw e refl
 not_both false b e = refl
 
-other_fine : (names : List (List ℕ)) (o : Option (List ℕ)) (set tries : Front ℕ) (call : Option FromCall)
+-- a call that is neither `fork` nor `exit`, within its ranges
+pub other_fine : (names : List (List ℕ)) (o : Option (List ℕ)) (set tries : Front ℕ) (call : Option FromCall)
     → IfGives set IsSet → IfGives tries IsTries → IfSome call IsOther → IsFine names o (says.other_said set tries call)
 unfolding says.other_said
 other_fine names o Wrong tries call s t h = tt
@@ -209,7 +213,8 @@ verb_fine names o set tries verbs.SemOp ws s t room =
 verb_fine names o set tries verbs.SemCtl ws s t room =
     other_fine names o set tries (call_of verbs.SemCtl ws) s t (others_fit verbs.SemCtl ws tt room)
 
-named_fine : (names : List (List ℕ)) (o : Option (List ℕ)) (set tries : Front ℕ) (verb : Option Verb)
+-- a call of this name, in words that a line has room for
+pub named_fine : (names : List (List ℕ)) (o : Option (List ℕ)) (set tries : Front ℕ) (verb : Option Verb)
     (ws : List (List ℕ)) → IfGives set IsSet → IfGives tries IsTries → width ws ≤ 4097
     → IsFine names o (says.named_said names set tries verb ws)
 named_fine names o set tries None ws s t room = tt
@@ -239,7 +244,8 @@ proc_from_fine : (names : List (List ℕ)) (o : Option (List ℕ)) (name : List 
 proc_from_fine names o name None is e h = tt
 proc_from_fine names o name (Some k) is e h = (is, e, h)
 
-proc_fine : (names : List (List ℕ)) (o : Option (List ℕ)) (w : List ℕ) (ws : List (List ℕ))
+-- `proc NAME` opens the block that the line names
+pub proc_fine : (names : List (List ℕ)) (o : Option (List ℕ)) (w : List ℕ) (ws : List (List ℕ))
     → o ≡ says.opened_by (w ∷ ws) → bytes_eq w (codes "proc") ≡ true → IsFine names o (says.proc_said names ws)
 unfolding says.proc_said says.opened_by
 proc_fine names o w [] e t = tt
@@ -248,7 +254,8 @@ proc_fine names o w (name ∷ []) e t =
     (λ is. proc_from_fine names o name (number_of names name) is refl (e ∙ rw (t, is) refl)) tt
 proc_fine names o w (name ∷ x ∷ ws) e t = tt
 
-end_fine : (names : List (List ℕ)) (o : Option (List ℕ)) (ws : List (List ℕ)) → IsFine names o (says.end_said ws)
+-- `end` is always within its ranges
+pub end_fine : (names : List (List ℕ)) (o : Option (List ℕ)) (ws : List (List ℕ)) → IsFine names o (says.end_said ws)
 unfolding says.end_said
 end_fine names o [] = tt
 end_fine names o (w ∷ ws) = tt
@@ -274,7 +281,8 @@ said_fine names line h =
 
 -- ---- lines that open a block
 
-bytes_same : (a b : List ℕ) → bytes_eq a b ≡ true → a ≡ b
+-- equal bytes are the same
+pub bytes_same : (a b : List ℕ) → bytes_eq a b ≡ true → a ≡ b
 bytes_same a b e = (bytes_eq-Decides a b).0 e
 
 two_words : (names : List (List ℕ)) (w name x : List ℕ) (b c : Bool) → bytes_eq w (codes "proc") ≡ b

@@ -19,7 +19,7 @@ use Rattle.script_reader.specs.declared.place.Place.{Place}
 use Rattle.script_reader.specs.declared.says.Said.{Said}
 use Rattle.script_reader.specs.declared.says.Said.TheVariants.{Skipped, Opens, BadProc, Ends, Unknown, Bad, Forks, Calls}
 use Rattle.script_reader.specs.Words.{lines_of}
-use Rattle.script_reader.specs.Says.{names_of, number_of, with_opening, opening_at, said_of}
+use Rattle.script_reader.specs.Says.{names_of, number_of, with_opening, opening_at, proc_from, said_of}
 use Rattle.script_reader.specs.Fault as spec
 use Rattle.script_reader.specs.Fault.{start, fault_of, blocks_from, blocks_of, outcome, Blocks}
 use Rattle.script_reader.proofs.Saying.{IsFine, said_fine, opening_said}
@@ -64,10 +64,11 @@ no_blocks fault all e = cc
 same_blocks : (blocks all : List Block) → (let r : Blocks = Ok blocks in r ≡ Ok all) → blocks ≡ all
 same_blocks blocks all e = cc
 
-abbrev ended_as : Bool → Bool → ℕ → List Block → Blocks
+abbrev pub ended_as : Bool → Bool → ℕ → List Block → Blocks
 ended_as inside none number blocks = cond inside (Err (number, NoEnd)) (cond none (Err (1, NoProc)) (Ok blocks))
 
-ending_ok : (inside : Bool) (none : Bool) (number : ℕ) (blocks all : List Block)
+-- where the lines end in blocks, none is open, there is one, and they are these
+pub ending_ok : (inside : Bool) (none : Bool) (number : ℕ) (blocks all : List Block)
     → ended_as inside none number blocks ≡ Ok all → (inside ≡ false) × (none ≡ false) × (blocks ≡ all)
 ending_ok true none number blocks all e = absurd (no_blocks (number, NoEnd) all e)
 ending_ok false true number blocks all e = absurd (no_blocks (1, NoProc) all e)
@@ -105,7 +106,8 @@ apart names k (b ∷ blocks) h =
     and_from (not (list_any (λ (other : Block). model.is_same b.name other.name) blocks)) (model.names_differ blocks)
     (ap not (none_same names k (k + 1) b.name blocks h.0 (omega arith) h.1)) (apart names (k + 1) blocks h.1)
 
-abbrev script_of : List Block → Script
+-- the script of blocks
+abbrev pub script_of : List Block → Script
 script_of blocks = record { blocks = blocks }
 
 forked_at : (script : Script) (k n : ℕ) (b : Bool) → nat_eq k 1 ≡ b → 1 ≤ k
@@ -193,29 +195,44 @@ stands_step names place size o said fine f stands small =
       known = known_step names place size o said small s.tidy s.known fine f;
     }
 
-stopped : (fault : Option ScriptFault) (number : ℕ) (others : Blocks) (blocks : List Block)
+-- where lines give blocks, the first of them has no fault, and those behind it give the blocks
+pub stopped : (fault : Option ScriptFault) (number : ℕ) (others : Blocks) (blocks : List Block)
     → spec.unless fault number others ≡ Ok blocks → (fault ≡ None) × (others ≡ Ok blocks)
 stopped None number others blocks e = (refl, e)
 stopped (Some fault) number others blocks e = absurd (no_blocks (number, fault) blocks e)
 
-pub sound_from : (names so_far : List (List ℕ)) (place : Place) (number : ℕ) (lines : List (List ℕ))
-    (blocks : List Block) → AreOpened names so_far place → (length names ≤ 32 → Stands names place)
+-- what lines are read as, where each of them says this
+pub record IsReader (say : List ℕ → Said) (read : Place → ℕ → List (List ℕ) → Blocks) : Type 0 where
+  pub ends : (place : Place) (number : ℕ) → read place number [] ≡ spec.ending place number
+  pub goes : (place : Place) (number : ℕ) (line : List ℕ) (lines : List (List ℕ)) → read place number (line ∷ lines)
+      ≡ spec.unless (fault_of place (length line) (say line)) number
+      (read (spec.behind place (say line)) (number + 1) lines)
+
+-- what each line says is within its ranges, and one with a name opens its block
+pub record AreFine (names : List (List ℕ)) (say : List ℕ → Said) : Type 0 where
+  pub fine : (line : List ℕ) → length line ≤ 4096 → IsFine names (opening_at line) (say line)
+  pub opens : (line x : List ℕ) → opening_at line ≡ Some x → say line ≡ proc_from (number_of names x) x
+
+sound_from : (names : List (List ℕ)) (say : List ℕ → Said) (read : Place → ℕ → List (List ℕ) → Blocks)
+    → AreFine names say → IsReader say read → (so_far : List (List ℕ)) (place : Place) (number : ℕ)
+    (lines : List (List ℕ)) (blocks : List Block) → AreOpened names so_far place
+    → (length names ≤ 32 → Stands names place)
     → fold (λ names line. with_opening names (opening_at line)) so_far lines ≡ names
-    → blocks_from names place number lines ≡ Ok blocks → IsSoundScript (script_of blocks)
-unfolding blocks_from
-sound_from names so_far place number [] blocks o stands all e =
-    let end = ending_ok place.inside (eqb (length place.blocks) 0) number place.blocks blocks e in
+    → read place number lines ≡ Ok blocks → IsSoundScript (script_of blocks)
+sound_from names say read a r so_far place number [] blocks o stands all e =
+    let end = ending_ok place.inside (eqb (length place.blocks) 0) number place.blocks blocks
+    (sym (r.ends place number) ∙ e) in
     subst (λ (bs : List Block). IsSoundScript (script_of bs)) end.2
     (finish names place
     (subst (λ (ns : List (List ℕ)). AreOpened names ns place) all o) stands end.0 end.1)
-sound_from names so_far place number (line ∷ lines) blocks o stands all e =
-    let said : Said = said_of names line in
+sound_from names say read a r so_far place number (line ∷ lines) blocks o stands all e =
+    let said : Said = say line in
     let s = stopped (fault_of place (length line) said) number
-    (blocks_from names (spec.behind place said) (number + 1) lines) blocks e in
+    (read (spec.behind place said) (number + 1) lines) blocks (sym (r.goes place number line lines) ∙ e) in
     let f = faultless place (length line) said s.0 in
-    let fine = said_fine names line (ltb-false 4096 (length line) f.short) in
-    sound_from names (with_opening so_far (opening_at line)) (spec.behind place said) (number + 1) lines blocks
-    (names_step names so_far place (length line) (opening_at line) said o fine (opening_said names line) f)
+    let fine = a.fine line (ltb-false 4096 (length line) f.short) in
+    sound_from names say read a r (with_opening so_far (opening_at line)) (spec.behind place said) (number + 1) lines
+    blocks (names_step names so_far place (length line) (opening_at line) said o fine (a.opens line) f)
     (stands_step names place (length line) (opening_at line) said fine f stands) all s.1
 
 first_place : (names : List (List ℕ)) → AreOpened names [] (start (length names))
@@ -243,20 +260,34 @@ first_place names = (
   },
 )
 
+-- all lines of a text, whatever calls they have
+pub sound_lines : (say : List ℕ → Said) (read : Place → ℕ → List (List ℕ) → Blocks) (lines : List (List ℕ))
+    (blocks : List Block) → AreFine (names_of lines) say → IsReader say read
+    → read (start (length (names_of lines))) 1 lines ≡ Ok blocks → IsSoundScript (script_of blocks)
+sound_lines say read lines blocks a r e =
+    let first = first_place (names_of lines) in
+    sound_from (names_of lines) say read a r [] (start (length (names_of lines))) 1 lines blocks first.0
+    (λ _. first.1) refl e
+
+reader : (names : List (List ℕ)) → IsReader (said_of names) (blocks_from names)
+unfolding blocks_from
+reader names = record { ends = λ place number. refl; goes = λ place number line lines. refl }
+
 pub sound_blocks : (lines : List (List ℕ)) (blocks : List Block) → blocks_of lines ≡ Ok blocks
     → IsSoundScript (script_of blocks)
 unfolding blocks_of
 sound_blocks lines blocks e =
-    let first = first_place (names_of lines) in
-    sound_from (names_of lines) [] (start (length (names_of lines))) 1 lines blocks first.0
-    (λ _. first.1) refl e
+    let names : List (List ℕ) = names_of lines in
+    sound_lines (said_of names) (blocks_from names) lines blocks
+    (record { fine = said_fine names; opens = opening_said names }) (reader names) e
 
-read_of : (blocks : Blocks) (script : Script)
-    → ((bs : List Block) → blocks ≡ Ok bs → IsSoundScript (script_of bs)) → spec.script_from blocks ≡ Ok script
-    → IsSoundScript script
-read_of (Ok bs) script h e = let same : script_of bs ≡ script =
-    cc in subst IsSoundScript same (h bs refl)
-read_of (Err fault) script h e = absurd cc
+-- ---- whole texts
+
+read_of : (P : Script → Type 0) (blocks : Blocks) (script : Script)
+    → ((bs : List Block) → blocks ≡ Ok bs → P (script_of bs)) → spec.script_from blocks ≡ Ok script → P script
+read_of P (Ok bs) script h e = let same : script_of bs ≡ script =
+    cc in subst P same (h bs refl)
+read_of P (Err fault) script h e = absurd cc
 
 not_first_cond : (b : Bool) (x y : Result Script ScriptStop) (script : Script) → ((s : Script) → x ≡ Ok s → ⊥)
     → cond b x y ≡ Ok script → y ≡ Ok script
@@ -266,21 +297,40 @@ not_first_cond false x y script h e = e
 no_script : (stop : ScriptStop) (s : Script) → (let r : Result Script ScriptStop = Err stop in r ≡ Ok s) → ⊥
 no_script stop s e = cc
 
+-- what bytes are read as whose lines are read as this
+abbrev pub read_whole : List ℕ → Blocks → Result Script ScriptStop
+read_whole bytes blocks =
+    cond (ltb spec.max_bytes (length bytes)) (Err (At (spec.line_behind spec.max_bytes bytes) ScriptTooLong))
+    (cond (ltb (utf8_valid_len bytes) (length bytes))
+    (Err (At (spec.line_behind (utf8_valid_len bytes) bytes) NotUtf8)) (spec.script_from blocks))
+
+-- what holds of the blocks of a text holds of the script that it is read as
+pub whole_has : (P : Script → Type 0) (bytes : List ℕ) (blocks : Blocks) (script : Script)
+    → ((bs : List Block) → blocks ≡ Ok bs → P (script_of bs)) → read_whole bytes blocks ≡ Ok script → P script
+whole_has P bytes blocks script h e =
+    let long : ScriptStop = At (spec.line_behind spec.max_bytes bytes) ScriptTooLong in
+    let bad : ScriptStop = At (spec.line_behind (utf8_valid_len bytes) bytes) NotUtf8 in
+    let whole : Result Script ScriptStop = spec.script_from blocks in
+    let a = not_first_cond (ltb spec.max_bytes (length bytes)) (Err long)
+    (cond (ltb (utf8_valid_len bytes) (length bytes)) (Err bad) whole) script (no_script long) e in
+    let b = not_first_cond (ltb (utf8_valid_len bytes) (length bytes)) (Err bad) whole script (no_script bad) a in
+    read_of P blocks script h b
+
 -- what reads as a script is sound
 pub reads_sound : (bytes : List ℕ) (script : Script) → outcome bytes ≡ Ok script
     → IsSoundScript script
 unfolding outcome
 reads_sound bytes script e =
-    let long : ScriptStop = At (spec.line_behind spec.max_bytes bytes) ScriptTooLong in
-    let bad : ScriptStop = At (spec.line_behind (utf8_valid_len bytes) bytes) NotUtf8 in
-    let whole : Result Script ScriptStop = spec.script_from (blocks_of (lines_of bytes)) in
-    let a = not_first_cond (ltb spec.max_bytes (length bytes)) (Err long)
-    (cond (ltb (utf8_valid_len bytes) (length bytes)) (Err bad) whole) script (no_script long) e in
-    let b = not_first_cond (ltb (utf8_valid_len bytes) (length bytes)) (Err bad) whole script (no_script bad) a in
-    read_of (blocks_of (lines_of bytes)) script (λ bs is. sound_blocks (lines_of bytes) bs is) b
+    whole_has IsSoundScript bytes (blocks_of (lines_of bytes)) script
+    (λ bs is. sound_blocks (lines_of bytes) bs is) e
+
+-- what holds of each script that is read holds of one that is given
+pub given_has : (P : Script → Type 0) (r read : Result Script ScriptStop)
+    → ((script : Script) → read ≡ Ok script → P script) → spec.Gives r read → IfOk r P
+given_has P (Ok script) read h g = h script g
+given_has P (Err stop) read h g = tt
 
 -- a script that is given is sound
 pub given_sound : (bytes : List ℕ) (r : Result Script ScriptStop)
     → spec.Gives r (outcome bytes) → IfOk r IsSoundScript
-given_sound bytes (Ok script) h = reads_sound bytes script h
-given_sound bytes (Err stop) h = tt
+given_sound bytes r h = given_has IsSoundScript r (outcome bytes) (reads_sound bytes) h

@@ -212,8 +212,9 @@ fn call_fault(place: &Place, size: usize, line: &Line) -> Option<ScriptFault>
     }
 }
 
-/// The fault of a line in its place.
-pub(crate) fn fault_of(place: &Place, size: usize, said: &Said) -> Option<ScriptFault>
+/// The fault of a line of this length, which says this in its place: of those that it has, the one that stands first
+/// in `ScriptFault`.
+pub fn fault_of(place: &Place, size: usize, said: &Said) -> Option<ScriptFault>
     requires blocks { length place.now.blocks < 2 ^ 32 }
     requires calls { place.now.calls ≤ 20000 }
     ensures { result ≡ spec.fault_of place.now size said.now }

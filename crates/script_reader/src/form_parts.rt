@@ -11,12 +11,12 @@ use pico_base::{Call, Id, Pid, Var};
 use quoted_bytes::strip_front;
 
 /// A call, and the variable whose value stands in place of its process number or identifier.
-pub(crate) type FromCall = (Option<Var>, Call);
+pub type FromCall = (Option<Var>, Call);
 
 /// `$VAR`, or an identifier.
 #[inline(always)]
 #[tactic(auto, unfolding(crate::specs::Forms::identifier))]
-pub(crate) fn identifier(word: &[u8]) -> Option<(Option<Var>, Id)>
+pub fn identifier(word: &[u8]) -> Option<(Option<Var>, Id)>
     ensures { result ≡ forms.identifier word.now }
 {
     match strip_front(word, b"$") {
@@ -62,7 +62,7 @@ pub(crate) fn optional(word: &[u8], words: &[&[u8]]) -> Option<bool>
 
 /// At most `create` and `excl`, in this order.
 #[tactic(auto, unfolding(crate::specs::Forms::two_optional))]
-pub(crate) fn create_excl(words: &[&[u8]]) -> Option<(bool, bool)>
+pub fn create_excl(words: &[&[u8]]) -> Option<(bool, bool)>
     ensures { result ≡ forms.two_optional (codes "create") (codes "excl") (texts words.now) }
 {
     match words {

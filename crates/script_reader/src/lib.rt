@@ -27,3 +27,12 @@ pub use parts::is_block_name;
 pub use says::is_comment;
 pub use script::{MAX_BYTES, line_of_byte, read_script, valid_len};
 pub use words::{next_line, next_word};
+// A reader of scripts with other calls goes over its lines as the one here.
+pub use checks::fault_of;
+pub use form_parts::{FromCall, create_excl, identifier};
+pub use numbers::{number, positive};
+pub use says::{end_line, named_line, proc_line, set_front, tries_front};
+pub use script::{block_names, ending};
+pub use tables::Names;
+pub use texts::text;
+pub use words::put_line_words;

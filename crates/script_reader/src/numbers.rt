@@ -46,10 +46,10 @@ fn with_digit(limit: u32, value: u32, digit: u8) -> Option<u32>
     }
 }
 
-/// A number up to the limit, without leading zeros. Most have one or two digits.
+/// A number up to the limit, without leading zeros; none where the word isn't one. Most have one or two digits.
 #[inline(always)]
 #[tactic(auto, unfolding(crate::specs::Parts::number, crate::specs::Parts::digits))]
-pub(crate) fn number(limit: u32, word: &[u8]) -> Option<u32>
+pub fn number(limit: u32, word: &[u8]) -> Option<u32>
     ensures value { result ≡ number_of limit word.now }
     ensures small { IfSome result (λ n. n ≤ limit) }
 {
@@ -65,9 +65,9 @@ pub(crate) fn number(limit: u32, word: &[u8]) -> Option<u32>
     }
 }
 
-/// A number from 1 to the limit.
+/// A number from 1 to the limit; none where the word isn't one.
 #[tactic(auto, unfolding(crate::specs::Parts::positive))]
-pub(crate) fn positive(limit: u32, word: &[u8]) -> Option<u32>
+pub fn positive(limit: u32, word: &[u8]) -> Option<u32>
     ensures value { result ≡ positive_of limit word.now }
     ensures small { IfSome result (λ n. n ≤ limit) }
     ensures some { IfSome result (λ n. 1 ≤ n) }

@@ -89,7 +89,7 @@ fn is_exit(call: &Call) -> bool
 impl Place {
     /// Before the first line of a text of so many names.
     #[tactic(auto, unfolding(crate::specs::Fault::start))]
-    pub(crate) fn new(alloc: Global, names: usize) -> Result<Place, Memory>
+    pub fn new(alloc: Global, names: usize) -> Result<Place, Memory>
         ensures { IfOk result (λ place. place ≡ spec.start names) }
     {
         let Some(count) = names.checked_add(1) else {
@@ -182,7 +182,7 @@ impl Place {
     }
 
     /// Goes behind a line without a fault.
-    pub(crate) fn go_behind(&mut self, alloc: Global, said: Said) -> Result<(), Memory>
+    pub fn go_behind(&mut self, alloc: Global, said: Said) -> Result<(), Memory>
         requires { self.old.calls ≤ 20000 }
         ensures { IfOk result (λ _. self.new ≡ spec.behind self.old said) }
     {

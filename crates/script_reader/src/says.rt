@@ -2,6 +2,7 @@
 
 ghost use Rattle.std.specs.Prelude.{◌≡◌, ◌≤◌, ◌==◌, ◌||◌, false, true, Some, None, OnOk, IfSome, option_copied};
 ghost use Rattle.script_reader.specs.Words.{PartWords, is_blank as is_blank_of, texts};
+ghost use Rattle.call_words.specs.Verbs.{verb_of};
 ghost use Rattle.script_reader.specs.Says as says;
 ghost use Rattle.script_reader.specs.Forms as forms;
 
@@ -49,9 +50,9 @@ pub enum Front<T> {
     Gives(Option<T>),
 }
 
-/// `VAR =`, and the words behind it.
+/// `VAR =` in front of a call, and the words behind it.
 #[tactic(auto, unfolding(crate::specs::Says::set_at))]
-fn set_front<'a, 'b>(words: &'b [&'a [u8]]) -> (Front<Var>, &'b [&'a [u8]])
+pub fn set_front<'a, 'b>(words: &'b [&'a [u8]]) -> (Front<Var>, &'b [&'a [u8]])
     ensures { (result.0, texts result.1.now) ≡ says.set_at (texts words.now) }
 {
     match words {
@@ -63,9 +64,9 @@ fn set_front<'a, 'b>(words: &'b [&'a [u8]]) -> (Front<Var>, &'b [&'a [u8]])
     }
 }
 
-/// `try N`, and the words behind it.
+/// `try N` in front of a call, and the words behind it.
 #[tactic(auto, unfolding(crate::specs::Says::tries_at))]
-fn tries_front<'a, 'b>(words: &'b [&'a [u8]]) -> (Front<u32>, &'b [&'a [u8]])
+pub fn tries_front<'a, 'b>(words: &'b [&'a [u8]]) -> (Front<u32>, &'b [&'a [u8]])
     ensures { (result.0, texts result.1.now) ≡ says.tries_at (texts words.now) }
 {
     match words {
@@ -179,6 +180,26 @@ fn verb_line(
     Ok(())
 }
 
+/// A call whose name this word is, with these words behind it.
+#[inline(always)]
+pub fn named_line(
+    alloc: Global,
+    names: &Names,
+    set: Front<Var>,
+    tries: Front<u32>,
+    name: &[u8],
+    words: &[&[u8]],
+    said: &mut Said,
+) -> Result<(), Memory>
+    ensures { OnOk result (said.new ≡ says.named_said names.now set tries (verb_of name.now) (texts words.now)) }
+{
+    match Verb::named(name) {
+        None => *said = Said::Unknown,
+        Some(verb) => verb_line(alloc, names, set, tries, verb, words, said)?,
+    }
+    Ok(())
+}
+
 /// The call behind `VAR =` and `try N`. It is compiled once for what stands there and once for nothing.
 #[inline(always)]
 #[tactic(auto, unfolding(crate::specs::Says::call_said))]
@@ -194,10 +215,7 @@ fn call_line(
 {
     match words {
         [] => *said = Said::Bad,
-        [name, words @ ..] => match Verb::named(name) {
-            None => *said = Said::Unknown,
-            Some(verb) => verb_line(alloc, names, set, tries, verb, words, said)?,
-        },
+        [name, words @ ..] => named_line(alloc, names, set, tries, name, words, said)?,
     }
     Ok(())
 }
@@ -250,9 +268,14 @@ fn line(alloc: Global, names: &Names, words: &[&[u8]], said: &mut Said) -> Resul
     }
 }
 
-/// `proc NAME`, by the words behind `proc`.
+/// `proc NAME`, by the words behind `proc`, in a text whose blocks have these names.
 #[tactic(auto, unfolding(crate::specs::Says::proc_said))]
-fn proc_line(alloc: Global, names: &Names, words: &[&[u8]], said: &mut Said) -> Result<(), Memory>
+pub fn proc_line(
+    alloc: Global,
+    names: &Names,
+    words: &[&[u8]],
+    said: &mut Said,
+) -> Result<(), Memory>
     ensures { OnOk result (said.new ≡ says.proc_said names.now (texts words.now)) }
 {
     match words {
@@ -265,8 +288,9 @@ fn proc_line(alloc: Global, names: &Names, words: &[&[u8]], said: &mut Said) -> 
     Ok(())
 }
 
+/// `end`, by the words behind it, of which there may be none.
 #[tactic(auto, unfolding(crate::specs::Says::end_said))]
-fn end_line(words: &[&[u8]]) -> Said
+pub fn end_line(words: &[&[u8]]) -> Said
     ensures { result ≡ says.end_said (texts words.now) }
 {
     match words {

@@ -21,8 +21,8 @@ use std::alloc::Global;
 /// The longest script, in bytes.
 pub const MAX_BYTES: usize = 1_048_576;
 
-/// The names in the lines `proc NAME`.
-fn block_names(alloc: Global, text: &[u8]) -> Result<Names, Memory>
+/// The names in the lines `proc NAME`, each once, in the order of their first lines.
+pub fn block_names(alloc: Global, text: &[u8]) -> Result<Names, Memory>
     ensures { IfOk result (λ names. names ≡ names_of (lines_of text.now)) }
 {
     let mut names = Names::new(alloc);
@@ -36,8 +36,8 @@ fn block_names(alloc: Global, text: &[u8]) -> Result<Names, Memory>
     Ok(names)
 }
 
-/// The blocks where the input ends, behind the line before this one.
-fn ending(place: Place, number: u32) -> Result<Blocks, ScriptStop>
+/// The blocks where the input ends, behind the line before this one. None may be open, and one has to be there.
+pub fn ending(place: Place, number: u32) -> Result<Blocks, ScriptStop>
     ensures { spec.GivesBlocks result (spec.ending place number) }
 {
     if place.inside {

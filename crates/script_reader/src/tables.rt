@@ -75,9 +75,10 @@ impl Flags {
     }
 }
 
-/// Different names in the order of their first mention, which contracts see as a list.
+/// Different names in the order of their first mention, which contracts see as a list. The names of a text's blocks
+/// give the blocks their numbers.
 #[derive(Drop)]
-pub(crate) struct Names {
+pub struct Names {
     names: IndexSet<Vec<u8>>,
 }
 
@@ -103,7 +104,7 @@ impl Names {
     }
 
     /// How many names there are.
-    pub(crate) fn len(&self) -> usize
+    pub fn len(&self) -> usize
         ensures { result ≡ length self.now }
     {
         self.names.len()
@@ -127,7 +128,7 @@ impl Names {
 
     /// The number of the block of this name, counted from 1.
     #[tactic(auto, unfolding(crate::specs::Says::number_of))]
-    pub(crate) fn number(&self, name: &[u8]) -> Option<usize>
+    pub fn number(&self, name: &[u8]) -> Option<usize>
         ensures { result ≡ number_of self.now name.now }
     {
         let _count = self.len();

@@ -141,9 +141,9 @@ fn repeated_text(alloc: Global, word: &[u8]) -> Result<Option<Bytes>, Memory>
     }
 }
 
-/// A text, `rep:N:C` or between quotes.
+/// A message's text, `rep:N:C` or between quotes; none where the word isn't one.
 #[tactic(auto, unfolding(crate::specs::Parts::text))]
-pub(crate) fn text(alloc: Global, word: &[u8]) -> Result<Option<Bytes>, Memory>
+pub fn text(alloc: Global, word: &[u8]) -> Result<Option<Bytes>, Memory>
     ensures { IfOk result (λ text. text ≡ text_of word.now) }
 {
     if let Some(rest) = strip_front(word, b"rep:") {

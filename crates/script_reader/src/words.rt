@@ -310,7 +310,7 @@ fn put_marked_words<'a>(
 }
 
 /// Puts the words of a line in the place of others, byte after byte.
-fn put_unmarked_words<'a>(words: &mut Vec<&'a [u8]>, line: &'a [u8]) -> Result<(), Memory>
+pub fn put_line_words<'a>(words: &mut Vec<&'a [u8]>, line: &'a [u8]) -> Result<(), Memory>
     ensures { OnOk result (texts words.new.items ≡ words_of line.now) }
 {
     words.clear();
@@ -333,7 +333,7 @@ pub(crate) fn put_words<'a>(
 {
     match stops {
         Some(stops) => put_marked_words(words, line, stops),
-        None => put_unmarked_words(words, line),
+        None => put_line_words(words, line),
     }
 }
 

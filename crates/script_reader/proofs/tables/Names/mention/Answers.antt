@@ -1,4 +1,4 @@
-use Rattle.script_reader.proofs.Names.{named}
+use Rattle.script_reader.proofs.Mentions.{named}
 use Rattle.script_reader.proofs.tables.Names.mention.Goals as goal
 
 pub returns : goal.returns

@@ -1,6 +1,6 @@
 use Rattle.std.proofs.Common.{◌∙◌}
 use Rattle.std.specs.Prelude.{bytes_eq}
-use Rattle.script_reader.proofs.Names.{position-map}
+use Rattle.script_reader.proofs.Mentions.{position-map}
 use Rattle.script_reader.proofs.tables.Names.place.Goals as goal
 
 pub returns-clause-value : goal.returns-clause-value

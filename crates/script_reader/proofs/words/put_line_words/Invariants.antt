@@ -1,6 +1,6 @@
 use Rattle.std.proofs.Common.{◌-◌, length}
 use Rattle.script_reader.proofs.Parting.{IsParted}
-use Rattle.script_reader.proofs.words.put_unmarked_words.Given as goal
+use Rattle.script_reader.proofs.words.put_line_words.Given as goal
 
 abbrev pub invariant-loop-start : goal.invariant-loop-start
 invariant-loop-start l = IsParted l.fn.line l.words.items l.at
