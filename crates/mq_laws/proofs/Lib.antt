@@ -1,0 +1,5 @@
+mod Finishing
+mod Leads
+mod Others
+mod Messages
+mod OnQueues
