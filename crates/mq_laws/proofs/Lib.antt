@@ -3,3 +3,6 @@ mod Leads
 mod Others
 mod Messages
 mod OnQueues
+mod Queues
+mod Together
+mod Places

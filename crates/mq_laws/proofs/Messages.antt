@@ -6,6 +6,7 @@ use Rattle.std.specs.Ordering.{int_eq}
 use Rattle.std.proofs.lemmas.Bool.{true≢false, cases_eq, cases_order, cases_Bool, and_parts, and_from}
 use Rattle.std.proofs.lemmas.Bool.Decides.{Decides-int_eq}
 use Rattle.std.proofs.lemmas.List.{length-map, map-append}
+use Rattle.std.proofs.lemmas.List.Sums.{sum_by-cons}
 use Rattle.kernel_model.specs.Queue as plain
 use Rattle.kernel_model.specs.Queue.{Queue, bytes_of, lower_of, lowest_upto, first_of}
 use Rattle.mq_model.specs.Queue.{Message, max_text, higher, highest, oldest_of}
@@ -56,7 +57,7 @@ bytes-bounded (m ∷ ms) h =
     in let b : Bounded m = bounded m parts.0
     in let rest : bytes_of ms ≤ 16 * length ms = bytes-bounded ms parts.1
     in let short : length m.text ≤ 16 = b.short
-    in let all : bytes_of (m ∷ ms) ≡ length m.text + bytes_of ms = refl
+    in let all : bytes_of (m ∷ ms) ≡ length m.text + bytes_of ms = sum_by-cons (λ x. length x.text) m ms
     in omega (arith, rest, short, all)
 
 -- ---- the lowest type and the highest priority
@@ -71,9 +72,9 @@ int_eq-other a b ne =
       | inr is_false ↦ is_false
     ]
 
-number-of : ℤ → ℕ
-number-of (pos n) = n
-number-of (negsuc n) = n
+abbrev number_of : ℤ → ℕ
+number_of (pos n) = n
+number_of (negsuc n) = n
 
 -- the same type is the same priority
 same-turned : (c d : ℕ) → c ≤ 32 → d ≤ 32 → int_eq (pos c) (pos d) ≡ nat_eq (turned c) (turned d)
@@ -85,10 +86,6 @@ same-turned c d hc hd =
           in let apart : pos c ≢ pos d = λ h. ne (ap number_of h)
           in int_eq-other (pos c) (pos d) apart ∙ sym (ne_eqb (turned c) (turned d) differ)
     ]
-  where
-    number_of : ℤ → ℕ
-    number_of (pos n) = n
-    number_of (negsuc n) = n
 
 -- a lower type is a higher priority
 lower-higher : (c d : ℕ) → c ≤ 32 → d ≤ 32 → nat_lt d c ≡ nat_lt (turned c) (turned d)
