@@ -6,3 +6,7 @@ mod OnQueues
 mod Queues
 mod Together
 mod Places
+mod Due
+mod GivenPlaces
+mod Written
+mod Histories

@@ -1,0 +1,5 @@
+use Rattle.mq_laws.proofs.Histories.{histories-legal}
+use Rattle.mq_laws.proofs.histories_are_legal.Goals as goal
+
+pub returns : goal.returns
+returns c = histories-legal
