@@ -1,6 +1,7 @@
 -- Which scripts are given scripts of POSIX message queues: those whose calls on queues are theirs, in System V's words.
-use Rattle.std.specs.Prelude.{◌≡◌, ℕ, ℤ, pos, negsuc, Bool, true, false, not, ◌&&◌, int_eq, Option, is_some}
+use Rattle.std.specs.Prelude.{◌≡◌, ℕ, ℤ, pos, negsuc, Bool, true, false, not, ◌&&◌, Option, is_some}
 use Rattle.std.specs.List.{list_all}
+use Rattle.std.specs.Ordering.{int_eq}
 use Rattle.pico_base.specs.declared.call.Call.{Call}
 use Rattle.pico_base.specs.declared.call.Call.TheVariants as calls
 use Rattle.pico_base.specs.declared.script.Line.{Line}
@@ -17,7 +18,8 @@ is_priority (negsuc n) = false
 abbrev pub is_given_call : Call → Bool
 is_given_call (calls.MsgGet key create excl) = is_some key
 is_given_call (calls.MsgSnd id class text nowait) = is_priority class && not nowait
-is_given_call (calls.MsgRcv id class size noerror nowait) = int_eq class (pos 0) && (not noerror && not nowait)
+is_given_call (calls.MsgRcv id class size noerror nowait) =
+    int_eq class (pos 0) && (is_u16 size && (not noerror && not nowait))
 is_given_call (calls.MsgSet id qbytes) = false
 is_given_call (calls.MsgRmid id) = false
 is_given_call call = true

@@ -4,6 +4,7 @@
 
 mod follow;
 mod read;
+mod script;
 mod show;
 mod stand_in;
 mod system_v;
@@ -11,5 +12,6 @@ mod text;
 mod words;
 
 pub use mq_model::MqErrno;
-pub use read::{MqScript, read_mq};
+pub use read::read_mq;
+pub use script::MqScript;
 pub use text::mq_trace;
