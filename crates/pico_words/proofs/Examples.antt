@@ -79,7 +79,7 @@ thaw_with_a_number : request_in (codes "thaw" ∷ codes "--seed=2" ∷ []) ≡ N
 unfolding clap_on_literals request_in is_taken meant meant_of_image number_of digit_at digits_front number_at
 thaw_with_a_number = refl
 
--- a mode must be given, and be one of the seven
+-- a mode must be given, and be one of the eight
 nothing : request_in [] ≡ None
 unfolding clap_on_literals request_in is_taken meant meant_of_image number_of digit_at digits_front number_at
 nothing = refl
