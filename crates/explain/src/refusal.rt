@@ -6,6 +6,7 @@ ghost use Rattle.explain.specs.Refusal.{begins_with, is_refusal};
 
 use explain_base::{Finding, Page, Text, text_of};
 use explain_boxes::{explain_boxes, script_alone};
+use explain_calls::Queues;
 use explain_image::explain_image;
 use explain_script::explain_script;
 use explain_trace::{explain_trace, trace_line};
@@ -70,12 +71,15 @@ fn of_script<'a>(
     if asks_for(words, "thaw") {
         return explain_image(alloc, bytes, number, name);
     }
+    if asks_for(words, "mq") {
+        return explain_script(alloc, bytes, number, name, false, Queues::Posix);
+    }
     let (script, ends_at_trace) = if asks_for(words, "check") {
         script_in(bytes)
     } else {
         (bytes, false)
     };
-    explain_script(alloc, script, number, name, ends_at_trace)
+    explain_script(alloc, script, number, name, ends_at_trace, Queues::SystemV)
 }
 
 // What is told of a fault of several sandboxes, which is told behind `fault: line `.

@@ -22,6 +22,7 @@ impl Span {
 #[derive(Clone, Copy)]
 pub enum Page {
     CallLines,
+    Queues,
     Blocks,
     Lines,
     Faults,
@@ -38,6 +39,7 @@ impl Page {
     pub fn text(self) -> &'static str {
         match self {
             Page::CallLines => "docs/script.md, Call lines",
+            Page::Queues => "docs/mq.md",
             Page::Blocks => "docs/script.md, Blocks",
             Page::Lines => "docs/script.md, Lines and words",
             Page::Faults => "docs/script.md, Faults",

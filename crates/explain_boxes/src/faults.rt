@@ -3,7 +3,7 @@ ghost use Rattle.std.specs.Prelude.{◌≡◌, IfOk, IfSome};
 
 use crate::headings::{begins, begun};
 use explain_base::{Fault, Finding, Line, Lines, Page, Piece, Span, Text, Word, Words};
-use explain_calls::{others, text_at};
+use explain_calls::{Queues, others, text_at};
 use explain_script::explain_script;
 use std::alloc::{AllocError, Global};
 
@@ -208,5 +208,5 @@ pub fn explain_boxes<'a>(
     // these two are faults of the whole input
     let is_whole = name == b"ScriptTooLong".as_slice() || name == b"NotUtf8".as_slice();
     let script = if is_whole { bytes } else { alone };
-    explain_script(alloc, script, number, name, false)
+    explain_script(alloc, script, number, name, false, Queues::SystemV)
 }

@@ -3,7 +3,7 @@
 use crate::forms::Form;
 use crate::needs::{Need, OPERATION};
 use crate::plain::plain_wrong;
-use explain_base::{Fault, Nearest, Page, Piece, Span, Text, Word, Words, Wrong};
+use explain_base::{Fault, Nearest, Piece, Span, Text, Word, Words, Wrong};
 
 /// The first of the words behind a call's name that isn't in order, from the left; the line ends at that byte.
 pub fn fault_of<'a>(
@@ -14,7 +14,7 @@ pub fn fault_of<'a>(
 ) -> Option<Fault<'a>> {
     let needed = wrong_needed(form, words, end, in_trace);
     let wrong = needed.or(wrong_behind(form, words.behind(form.needs.len())))?;
-    Some(wrong.fault(form.text, Page::CallLines))
+    Some(wrong.fault(form.text, form.page()))
 }
 
 // The first of the words that must be there that isn't in order.

@@ -1,12 +1,14 @@
 //! How each call is written.
 
+use crate::lists::is_among;
+use crate::names::Queues;
 use crate::needs::{
     ACTION, BLOCK_NAME, CHILD, INDEX, ITSELF, KEY, MOST_KEPT, MOST_TAKEN, NUMBER, Need, ON_QUEUE,
-    ON_SET, OPERATION, PROCESS, QUEUE, SET, SIGNAL, SIGNAL_ARGUMENT, SIGNALS, TEXT, TYPE, VALUE,
-    VALUES, WAY,
+    ON_SET, OPERATION, PRIORITY, PROCESS, QUEUE, QUEUE_NAME, ROOM, SET, SIGNAL, SIGNAL_ARGUMENT,
+    SIGNALS, TEXT, TYPE, VALUE, VALUES, WAY,
 };
 use crate::plain::text_at;
-use explain_base::Words;
+use explain_base::{Page, Words};
 
 /// The words that may follow those that must be there, in their order, and that they may stand there.
 #[derive(Clone, Copy)]
@@ -301,6 +303,52 @@ static FORMS: [Form; 29] = [
     },
 ];
 
+// The calls on POSIX message queues.
+static POSIX_FORMS: [Form; 4] = [
+    Form {
+        call: "mqopen",
+        place: 0,
+        word: "",
+        text: "mqopen /N [create] [excl]",
+        needs: &[QUEUE_NAME],
+        behind: CREATE_EXCL,
+    },
+    Form {
+        call: "mqsend",
+        place: 0,
+        word: "",
+        text: "mqsend Q P X",
+        needs: &[QUEUE, PRIORITY, TEXT],
+        behind: NOTHING,
+    },
+    Form {
+        call: "mqreceive",
+        place: 0,
+        word: "",
+        text: "mqreceive Q Z",
+        needs: &[QUEUE, ROOM],
+        behind: NOTHING,
+    },
+    Form {
+        call: "mqgetattr",
+        place: 0,
+        word: "",
+        text: "mqgetattr Q",
+        needs: &[QUEUE],
+        behind: NOTHING,
+    },
+];
+
+// The first of these that a call has by its name and the words behind it.
+fn form_in(forms: &'static [Form], name: &[u8], words: Words) -> Option<&'static Form> {
+    for form in forms {
+        if form.is_of(name, words) {
+            return Some(form);
+        }
+    }
+    None
+}
+
 impl Form {
     // Whether a call has this form by its name and the words behind it.
     fn is_of(&self, name: &[u8], words: Words) -> bool {
@@ -308,13 +356,22 @@ impl Form {
             && (self.word.is_empty() || text_at(words, self.place) == self.word.as_bytes())
     }
 
-    /// The form of a call by its name and the words behind it; none where this is the name of no call.
-    pub fn of(name: &[u8], words: Words) -> Option<&'static Form> {
-        for form in &FORMS {
-            if form.is_of(name, words) {
-                return Some(form);
+    /// The page that has its rule.
+    pub fn page(&self) -> Page {
+        for form in &POSIX_FORMS {
+            if form.call == self.call {
+                return Page::Queues;
             }
         }
-        None
+        Page::CallLines
+    }
+
+    /// The form of a call by its name and the words behind it; none where this is the name of no call of a script with
+    /// these queues.
+    pub fn of(queues: Queues, name: &[u8], words: Words) -> Option<&'static Form> {
+        if !is_among(name, queues.names()) {
+            return None;
+        }
+        form_in(&POSIX_FORMS, name, words).or(form_in(&FORMS, name, words))
     }
 }

@@ -10,8 +10,17 @@ use explain_base::{Fault, Page, Word, Words, Wrong};
 pub const FRONT_FORM: &str = "[VAR =] [try N] CALL";
 
 // The calls whose first word may be a variable.
-static USERS: [&str; 7] = [
-    "kill", "waitpid", "msgsnd", "msgrcv", "msgctl", "semop", "semctl",
+static USERS: [&str; 10] = [
+    "kill",
+    "waitpid",
+    "msgsnd",
+    "msgrcv",
+    "msgctl",
+    "mqsend",
+    "mqreceive",
+    "mqgetattr",
+    "semop",
+    "semctl",
 ];
 
 /// The variable that the line sets, the number of its tries, and the words of the call, where they are there.

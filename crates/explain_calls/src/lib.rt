@@ -16,7 +16,7 @@ pub use calls::fault_of;
 pub use forms::Form;
 pub use front::{Call, FRONT_FORM, front_fault};
 pub use lists::but_for_capitals;
-pub use names::{CALL_NAMES, CALLS, is_call};
+pub use names::{Queues, is_call};
 pub use numbers::{GREATEST, Range, block_name, count_of, is_block_name, is_variable, number};
 pub use plain::{Told, other, others, plain_wrong, text_at};
 pub use signals::{is_signal, signal, signal_set};

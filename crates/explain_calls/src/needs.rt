@@ -1,7 +1,7 @@
 //! What a word of a call has to be.
 
 use crate::lists::{one_of, operation, values};
-use crate::numbers::{GREATEST, Range, block_name, child, key, number, numbered};
+use crate::numbers::{GREATEST, Range, block_name, child, key, number, numbered, queue_name};
 use crate::signals::{signal_or, signal_set};
 use crate::texts::text;
 use explain_base::{Text, Word, Wrong};
@@ -15,6 +15,8 @@ pub enum Kind {
     /// The same, or `any`.
     Child,
     Key,
+    /// `/N`.
+    QueueName,
     Number,
     Values,
     Operation,
@@ -158,6 +160,39 @@ pub const KEY: Need = Need {
     lacking: "a key, a number from 1 on",
     low: 0,
     high: 0,
+    choices: &[],
+    expected: "",
+};
+
+/// The name of a POSIX message queue.
+pub const QUEUE_NAME: Need = Need {
+    kind: Kind::QueueName,
+    called: "/N",
+    lacking: "the queue's name, as /5",
+    low: 0,
+    high: 0,
+    choices: &[],
+    expected: "",
+};
+
+/// A message's priority.
+pub const PRIORITY: Need = Need {
+    kind: Kind::Number,
+    called: "P",
+    lacking: "the priority, a number from 0 to 65535; those above 31 are refused",
+    low: 0,
+    high: 65535,
+    choices: &[],
+    expected: "",
+};
+
+/// The room for a message that is taken.
+pub const ROOM: Need = Need {
+    kind: Kind::Number,
+    called: "Z",
+    lacking: "the room for the message, from 0 to 65535; less than 16 is refused",
+    low: 0,
+    high: 65535,
     choices: &[],
     expected: "",
 };
@@ -317,6 +352,7 @@ impl Need {
     fn wrong_text(self, word: Word<'_>, is_followed: bool) -> Option<Wrong<'_>> {
         match self.kind {
             Kind::BlockName => block_name(word),
+            Kind::QueueName => queue_name(word),
             Kind::Signal => signal_or(word, self.choices, self.expected),
             Kind::Choice => one_of(word, self.choices, self.expected),
             Kind::Text => text(word),

@@ -7,6 +7,9 @@ use explain_base::{Nearest, Piece, Span, Style, Text, Word, Wrong};
 /// The greatest number of a process, a queue, a set and a key.
 pub const GREATEST: i64 = 4294967295;
 
+// The greatest number in the name of a POSIX message queue.
+const MOST_NAMED: i64 = 1000000;
+
 static PRIVATE: [&str; 1] = ["private"];
 
 /// Which numbers may stand in the place of this name.
@@ -105,7 +108,7 @@ fn unlike_digits<'a>(text: &'a [u8], digits: &[u8]) -> Option<Text<'a>> {
 
 // A variable stands where it can't.
 fn no_variable_here<'a>(word: Word<'a>, range: Range) -> Wrong<'a> {
-    let behind = Piece::plain("; variables stand for P, Q and S alone");
+    let behind = Piece::plain("; variables stand for processes, queues and sets alone");
     let expected = Text::two(range.piece(), behind);
     Wrong::new(
         Text::plain("a variable can't stand here"),
@@ -264,6 +267,29 @@ fn no_key(text: &[u8]) -> Text<'_> {
         Nearest::told(text, &PRIVATE, plain)
     } else {
         plain
+    }
+}
+
+// What is expected in the place of bytes that are no queue's name.
+fn no_queue_name(text: &[u8]) -> Text<'_> {
+    if are_digits(text) {
+        Text::whole_in("did you mean /", text, "?")
+    } else {
+        Text::plain("/N with a number from 1 to 1000000, as /5")
+    }
+}
+
+/// The name of a POSIX message queue: `/` and a number.
+pub fn queue_name(word: Word<'_>) -> Option<Wrong<'_>> {
+    match word.text {
+        [b'/', text @ ..] if !text.is_empty() => {
+            let start = word.start.saturating_add(1);
+            number(Word { text, start }, Range::of("N", 1, MOST_NAMED))
+        }
+        text => {
+            let what = Text::said(text, " is no queue's name");
+            Some(Wrong::new(what, no_queue_name(text), word.span()))
+        }
     }
 }
 

@@ -2,7 +2,7 @@
 ghost use Rattle.std.specs.Prelude.{◌≡◌, IfOk, IfSome};
 
 use explain_base::{Fault, Finding, Line, Lines, Page, Piece, Span, Text, Words};
-use explain_calls::{count_of, others, text_at};
+use explain_calls::{Queues, count_of, others, text_at};
 use explain_script::explain_script;
 use std::alloc::{AllocError, Global};
 
@@ -200,5 +200,5 @@ pub fn explain_image<'a>(
         Some((script, _)) => script,
         None => bytes,
     };
-    explain_script(alloc, script, number, name, false)
+    explain_script(alloc, script, number, name, false, Queues::SystemV)
 }

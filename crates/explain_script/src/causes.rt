@@ -3,67 +3,12 @@
 use crate::blocks::{bad_end, end_of};
 use crate::reading::line_naming;
 use crate::refused::Cause;
+use crate::spoken::{in_place_of, of_other_queues, setting};
 use explain_base::{Fault, Nearest, Page, Piece, Span, Text, Word, Wrong};
 use explain_calls::{
-    CALL_NAMES, CALLS, Call, FRONT_FORM, Form, Told, block_name, but_for_capitals, fault_of,
-    front_fault, is_variable, plain_wrong,
+    Call, FRONT_FORM, Form, Queues, Told, block_name, but_for_capitals, fault_of, front_fault,
+    is_call, is_variable, plain_wrong,
 };
-
-// What people write in place of a call's name, and what is expected there.
-#[derive(Clone, Copy)]
-struct Spoken {
-    written: &'static str,
-    meant: &'static str,
-}
-
-static OTHER_NAMES: [Spoken; 9] = [
-    Spoken {
-        written: "wait",
-        meant: "waitpid any nohang",
-    },
-    Spoken {
-        written: "send",
-        meant: "msgsnd",
-    },
-    Spoken {
-        written: "recv",
-        meant: "msgrcv",
-    },
-    Spoken {
-        written: "receive",
-        meant: "msgrcv",
-    },
-    Spoken {
-        written: "signal",
-        meant: "sigaction",
-    },
-    Spoken {
-        written: "semwait",
-        meant: "semop S I:-1:nowait",
-    },
-    Spoken {
-        written: "sempost",
-        meant: "semop S I:1",
-    },
-    Spoken {
-        written: "print",
-        meant: "a script's calls print nothing; the trace shows each reply",
-    },
-    Spoken {
-        written: "sleep",
-        meant: "a call's name; nothing waits here, and `try N` makes a call again",
-    },
-];
-
-// The call that is meant by a name that is none; nothing where that isn't known.
-fn other_name(text: &[u8]) -> Option<&'static str> {
-    for name in &OTHER_NAMES {
-        if name.written.as_bytes() == text {
-            return Some(name.meant);
-        }
-    }
-    None
-}
 
 // The parts of a word on either side of its first byte that is this one.
 fn cut(text: &[u8], by: u8) -> Option<(&[u8], &[u8])> {
@@ -102,14 +47,14 @@ fn is_like_end(text: &[u8]) -> bool {
     text == b"end;".as_slice() || text == b"end.".as_slice() || text.eq_ignore_ascii_case(b"end")
 }
 
-// A word that has to do with blocks.
-fn block_word(word: Word<'_>) -> Option<Wrong<'_>> {
+// A word that has to do with blocks, or a lone `=`.
+fn block_word(queues: Queues, word: Word<'_>) -> Option<Wrong<'_>> {
     if is_like_end(word.text) {
         let what = Text::said(word.text, " doesn't end a block");
         return Some(Wrong::new(what, Text::plain("end"), word.span()));
     }
     let (what, expected) = if word.text == b"=".as_slice() {
-        ("a variable stands before `=`", "as q = msgget private")
+        ("a variable stands before `=`", setting(queues))
     } else if word.text.eq_ignore_ascii_case(b"proc") {
         ("`proc` is in small letters", "proc")
     } else if word.text == b"killed".as_slice() {
@@ -122,46 +67,67 @@ fn block_word(word: Word<'_>) -> Option<Wrong<'_>> {
 }
 
 // A call that is written as in other languages.
-fn with_brackets(word: Word<'_>) -> Option<Wrong<'_>> {
+fn with_brackets(queues: Queues, word: Word<'_>) -> Option<Wrong<'_>> {
     let (name, _) = cut(word.text, b'(')?;
-    let otherwise = Nearest::told(word.text, &CALL_NAMES, Text::plain(CALLS));
+    let otherwise = Nearest::told(word.text, queues.names(), Text::plain(queues.calls()));
     let what = "a call has no brackets: its words stand behind it, with blanks between";
-    let near = Nearest::told(name, &CALL_NAMES, otherwise);
+    let near = Nearest::told(name, queues.names(), otherwise);
     Some(Wrong::new(Text::plain(what), near, word.span()))
 }
 
 // A word that is like a call's name.
-fn like_a_call(word: Word<'_>) -> Option<Wrong<'_>> {
-    if let Some(name) = but_for_capitals(word.text, &CALL_NAMES) {
+fn like_a_call(queues: Queues, word: Word<'_>) -> Option<Wrong<'_>> {
+    if let Some(name) = but_for_capitals(word.text, queues.names()) {
         return Some(plain_wrong("a call's name is in small letters", name, word.span()));
     }
-    if let Some(name) = other_name(word.text) {
+    if let Some(name) = in_place_of(queues, word.text) {
         let is_none = Text::said(word.text, " is no call");
         return Some(Wrong::new(is_none, Text::plain(name), word.span()));
     }
-    with_brackets(word)
+    with_brackets(queues, word)
 }
 
 // What is expected in place of a word that is like no call; whether it is all that stands there.
-fn call_due(word: Word<'_>, is_alone: bool) -> Text<'_> {
+fn call_due(queues: Queues, word: Word<'_>, is_alone: bool) -> Text<'_> {
     if is_alone && is_variable(word.text) {
-        return Text::plain("VAR = CALL sets a variable, as q = msgget private");
+        let front = Piece::plain("VAR = CALL sets a variable, ");
+        return Text::two(front, Piece::plain(setting(queues)));
     }
-    Nearest::told(word.text, &CALL_NAMES, Text::plain(CALLS))
+    Nearest::told(word.text, queues.names(), Text::plain(queues.calls()))
 }
 
 // A word that is like none.
-fn unlike_call(word: Word<'_>, is_alone: bool) -> Wrong<'_> {
+fn unlike_call(queues: Queues, word: Word<'_>, is_alone: bool) -> Wrong<'_> {
     let what = Text::said(word.text, " is no call");
-    Wrong::new(what, call_due(word, is_alone), word.span())
+    Wrong::new(what, call_due(queues, word, is_alone), word.span())
+}
+
+// `try` with a call in the place of its number, so that the word behind that call's name stands for a name.
+fn tries_lacking(cause: Cause<'_>) -> Option<Fault<'_>> {
+    let tries = Call::of(cause.words()).tries?;
+    if is_call(tries.text) {
+        front_fault(cause.words())
+    } else {
+        None
+    }
 }
 
 /// A word in the place of a call's name that is none.
-pub fn unknown_call<'a>(call: Call<'a>, first: Word<'a>) -> Fault<'a> {
+pub fn unknown_call<'a>(cause: Cause<'a>, first: Word<'a>) -> Fault<'a> {
+    if let Some(fault) = tries_lacking(cause) {
+        return fault;
+    }
+    let queues = cause.queues;
+    let call = Call::of(cause.words());
     let word = call.words.get(0).unwrap_or(first);
-    let like = glued(word).or(block_word(word)).or(like_a_call(word));
-    let unlike = unlike_call(word, call.words.get(1).is_none());
-    like.unwrap_or(unlike).fault(FRONT_FORM, Page::CallLines)
+    if let Some(wrong) = of_other_queues(queues, word) {
+        return wrong.fault(FRONT_FORM, Page::Queues);
+    }
+    let like = glued(word)
+        .or(block_word(queues, word))
+        .or(like_a_call(queues, word));
+    let unlike = unlike_call(queues, word, call.words.get(1).is_none());
+    like.unwrap_or(unlike).fault(FRONT_FORM, queues.page())
 }
 
 /// Words of a line that aren't in order.
@@ -190,7 +156,8 @@ fn bad_call<'a>(cause: Cause<'a>, first: Word<'a>) -> Option<Fault<'a>> {
 fn no_call(cause: Cause<'_>) -> Fault<'_> {
     let end = end_of(cause.line);
     let span = Span::of(end.saturating_add(1), end.saturating_add(2));
-    plain_wrong("the line ends before its call", CALLS, span).fault(FRONT_FORM, Page::CallLines)
+    let wrong = plain_wrong("the line ends before its call", cause.queues.calls(), span);
+    wrong.fault(FRONT_FORM, cause.queues.page())
 }
 
 // What is wrong with a call and what is in front of it.
@@ -201,7 +168,7 @@ fn unlike_form<'a>(
     name: Word<'a>,
 ) -> Option<Fault<'a>> {
     let words = call.words.behind(1);
-    match Form::of(name.text, words) {
+    match Form::of(cause.queues, name.text, words) {
         Some(form) => adorned(call, first).or(fault_of(form, words, end_of(cause.line), false)),
         None => {
             // a call that the program knows and this page doesn't

@@ -7,6 +7,7 @@ mod causes;
 mod forks;
 mod reading;
 mod refused;
+mod spoken;
 mod variables;
 mod whole;
 

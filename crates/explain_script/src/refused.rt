@@ -8,15 +8,17 @@ use crate::reading::{Reading, first_word};
 use crate::variables::unset_variable;
 use crate::whole::{line_too_long, not_utf8, script_too_long};
 use explain_base::{Finding, Line, Lines, Page, Span, Text, Word, Words};
-use explain_calls::{Call, Told};
+use explain_calls::{Call, Queues, Told};
 use std::alloc::{AllocError, Global};
 
-/// A line that is at fault, the script that it stands in, and what the lines before it say.
+/// A line that is at fault, the script that it stands in, what the lines before it say, and which queues its calls are
+/// on.
 #[derive(Clone, Copy)]
 pub struct Cause<'a> {
     pub script: &'a [u8],
     pub line: Line<'a>,
     pub reading: Reading<'a>,
+    pub queues: Queues,
 }
 
 impl<'a> Cause<'a> {
@@ -81,7 +83,7 @@ fn of_blocks<'a>(cause: Cause<'a>, first: Word<'a>, name: &'a [u8]) -> Option<To
 // The same of a call's words.
 fn of_call<'a>(cause: Cause<'a>, first: Word<'a>, name: &'a [u8]) -> Option<Told<'a>> {
     match name {
-        b"UnknownCall" => Some(Told::alone(unknown_call(Call::of(cause.words()), first))),
+        b"UnknownCall" => Some(Told::alone(unknown_call(cause, first))),
         b"BadArgument" => Some(bad_argument(cause, first)),
         _ => None,
     }
@@ -136,6 +138,7 @@ fn of_line<'a>(
     script: &'a [u8],
     line: Line<'a>,
     name: &'a [u8],
+    queues: Queues,
 ) -> Result<Finding<'a>, AllocError>
     ensures { IfOk result (λ finding. finding.number ≡ Some line.entry.number) }
 {
@@ -144,6 +147,7 @@ fn of_line<'a>(
         script,
         line,
         reading,
+        queues,
     };
     match cause.words().get(0) {
         Some(first) => of_words(alloc, cause, first, name),
@@ -151,14 +155,15 @@ fn of_line<'a>(
     }
 }
 
-/// Why this script has the fault of this name at this line, whose number is the finding's. In a text to check it ends
-/// before the line `trace`.
+/// Why this script with these queues has the fault of this name at this line, whose number is the finding's. In a text
+/// to check it ends before the line `trace`.
 pub fn explain_script<'a>(
     alloc: Global,
     script: &'a [u8],
     number: usize,
     name: &'a [u8],
     ends_at_trace: bool,
+    queues: Queues,
 ) -> Result<Finding<'a>, AllocError>
     ensures { IfOk result (λ finding. finding.number ≡ Some number) }
 {
@@ -175,7 +180,7 @@ pub fn explain_script<'a>(
     match line {
         Some(line) if name == b"LineTooLong".as_slice() => Ok(line_too_long(alloc, line)),
         Some(line) if name != b"NoEnd".as_slice() || first_word(line) == b"proc".as_slice() => {
-            of_line(alloc, script, line, name)
+            of_line(alloc, script, line, name, queues)
         }
         _ => {
             if name == b"NoEnd".as_slice() {

@@ -5,8 +5,7 @@ use crate::replies::{wrong_order, wrong_own, wrong_spelling};
 use crate::wakes::wrong_wakes;
 use explain_base::{Fault, Lines, Nearest, Page, Piece, Span, Style, Text, Word, Words, Wrong};
 use explain_calls::{
-    CALL_NAMES, CALLS, Form, GREATEST, Range, fault_of, is_variable, number, plain_wrong, signal,
-    text_at,
+    Form, GREATEST, Queues, Range, fault_of, is_variable, number, plain_wrong, signal, text_at,
 };
 
 /// How a line of a trace is written.
@@ -150,7 +149,7 @@ fn wrong_call<'a>(script: &'a [u8], words: Words<'a>, sign: Word<'a>) -> Option<
         Some(first) if first.text == b"withdraw".as_slice() => wrong_withdrawal(words, first),
         Some(first) => wrong_words(script, words, first, sign.start.saturating_sub(1)),
         None => {
-            let wrong = plain_wrong("the line has no call", CALLS, sign.span());
+            let wrong = plain_wrong("the line has no call", Queues::SystemV.calls(), sign.span());
             Some(wrong.fault(FORM, Page::Trace))
         }
     }
@@ -163,7 +162,7 @@ fn wrong_words<'a>(
     first: Word<'a>,
     end: usize,
 ) -> Option<Fault<'a>> {
-    match Form::of(first.text, words.behind(1)) {
+    match Form::of(Queues::SystemV, first.text, words.behind(1)) {
         Some(form) => on_page(fault_of(form, words.behind(1), end, true)).or(unlike(script, words)),
         None => Some(unlike_call(first, words.get(1).is_none()).fault(FORM, Page::Trace)),
     }
@@ -247,7 +246,7 @@ fn unlike_call(first: Word<'_>, is_alone: bool) -> Wrong<'_> {
     } else if is_alone && is_variable(first.text) {
         "a trace has no variables"
     } else {
-        let near = Nearest::told(first.text, &CALL_NAMES, Text::plain(call));
+        let near = Nearest::told(first.text, Queues::SystemV.names(), Text::plain(call));
         return Wrong::new(Text::said(first.text, " is no call"), near, first.span());
     };
     plain_wrong(what, call, first.span())
