@@ -18,7 +18,9 @@ WORD = re.compile(r'"[^"]*(?:"[^ \t\r]*)?|[^ \t\r"][^ \t\r]*')
 EVENT = re.compile(r"(run|take) ([0-9]+)(?: from ([0-9]+))?")
 # the calls that the caller's own node carries out, whatever they are about
 OWN = ("getpid", "fork", "sigaction", "sigprocmask", "sigpending", "handled", "waitpid")
-QUEUE_CALLS, SET_CALLS = ("msgsnd", "msgrcv", "msgctl"), ("semop", "semctl")
+GETS = ("msgget", "mqopen", "semget")
+QUEUE_CALLS = ("msgsnd", "msgrcv", "msgctl", "mqsend", "mqreceive", "mqgetattr")
+SET_CALLS = ("semop", "semctl")
 
 
 @dataclass
@@ -117,6 +119,11 @@ def kind_of(call: list[str], reply: list[str], wakes: bool) -> str:
     return "fork" if call[0] == "fork" else "ok"
 
 
+def is_refused_at_once(call: list[str], reply: list[str]) -> bool:
+    """Whether a call on a POSIX message queue is refused by its arguments, whatever the queue: by the caller's node."""
+    return call[0] in ("mqsend", "mqreceive") and reply in (["EINVAL"], ["EMSGSIZE"])
+
+
 def woken_in(words: list[str]) -> list[tuple[int, str]]:
     """The processes that an entry wakes, each with its reply, from the words behind the node."""
     found: list[tuple[int, list[str]]] = []
@@ -193,7 +200,8 @@ class Reader:
         """Who the entry is about, and what it says of births, ends and nodes."""
         at, processes = len(self.picture.entries), self.picture.processes
         caller = processes.setdefault(entry.pid, Process(entry.pid, begins=at))
-        if not caller.node and (call[0] in OWN or call[1:] == ["private"] or call[-1] == "badsig"):
+        is_own = call[0] in OWN or call[1:] == ["private"] or call[-1] == "badsig" or is_refused_at_once(call, reply)
+        if not caller.node and is_own:
             caller.node = entry.by
         entry.about = [entry.pid]
         if entry.kind == "end":
@@ -222,7 +230,8 @@ class Reader:
     def note_name(self, entry: Entry, call: list[str], reply: list[str]) -> None:
         """Which queue or set the entry is about, and who owns it."""
         at = len(self.picture.entries)
-        if call[0] in ("msgget", "semget"):
+        is_get = call[0] in GETS
+        if is_get:
             number, owner = reply[0], entry.by
         elif call[0] in QUEUE_CALLS + SET_CALLS and len(call) > 1:
             number, owner = call[1], entry.by
@@ -230,9 +239,8 @@ class Reader:
             return
         if not number.isdigit():
             return
-        kind = "queue" if call[0].startswith("msg") else "set"
+        kind = "set" if call[0].startswith("sem") else "queue"
         place = self.places.get((kind, int(number)))
-        is_get = call[0] in ("msgget", "semget")
         if place is None:
             if not is_get:
                 # nothing has this number
@@ -242,7 +250,7 @@ class Reader:
         name = self.picture.names[place]
         entry.name = place
         name.calls += 1
-        if name.removed is None:
+        if name.removed is None and not is_refused_at_once(call, reply):
             self.note_owner(name, at, owner, is_get, call[-1] == "rmid" and entry.kind == "ok")
 
     def note_owner(self, name: Name, at: int, owner: int, is_get: bool, is_removal: bool) -> None:
