@@ -2,4 +2,5 @@
 mod bodies;
 mod caches;
 mod callers;
+mod cuts;
 mod handovers;
