@@ -1,6 +1,6 @@
 #!/usr/bin/env python3
 """The programs that `./pico` runs, each kept beside what its sources were when its build began: `pico`, and the one
-that says why `pico` refused what it was given.
+that says why `pico` refused what it was given. Beside them the one that runs scripts under gates, which tests run.
 
 Of each a proved program and an unproved one are kept in folders of out/pico and out/pico_explain. One of them is run
 only where the sources are the very files that it was built of, none changed, gone or new: by their sizes and times, and
@@ -22,11 +22,11 @@ import time
 
 # what of a crate its program is made of
 PARTS = ("src", "specs", "proofs")
-# the crates of the two programs; the variables that name another program; and the words of the run behind a proof
-PICO, EXPLAIN = "pico_cmd", "pico_explain"
-FOLDERS = {PICO: "pico", EXPLAIN: "pico_explain"}
-VARIABLES = {PICO: "PICO", EXPLAIN: "PICO_EXPLAIN"}
-TRIED = {PICO: (["sim"], "examples/hello.pico"), EXPLAIN: ([], None)}
+# the crates of the programs; the variables that name another program; and the words of the run behind a proof
+PICO, EXPLAIN, GATES = "pico_cmd", "pico_explain", "gate_bench"
+FOLDERS = {PICO: "pico", EXPLAIN: "pico_explain", GATES: "gate_bench"}
+VARIABLES = {PICO: "PICO", EXPLAIN: "PICO_EXPLAIN", GATES: "GATE_BENCH"}
+TRIED = {PICO: (["sim"], "examples/hello.pico"), EXPLAIN: ([], None), GATES: (["open"], "examples/hello.pico")}
 # how often a build is begun again where a source is touched while it goes on
 BUILDS = 3
 # the lines of a build's log that are shown where it fails
@@ -45,7 +45,7 @@ def tell(text: str) -> None:
 
 def prove_all(top: str) -> None:
     """Proves both programs and all that they stand on, builds them, and keeps them."""
-    both = [Programs(top, crate) for crate in FOLDERS]
+    both = [Programs(top, crate) for crate in (PICO, EXPLAIN)]
     if all(it.proved_of(it.sources()) for it in both):
         say("the program is proved already")
         return
@@ -242,7 +242,7 @@ def refuse(what: str, log: str, top: str) -> None:
 
 
 class Programs:
-    """One of the two programs of one checkout, proved and not."""
+    """One of the programs of one checkout, proved and not."""
 
     def __init__(self, top: str, crate: str = PICO) -> None:
         self.top, self.crate, folder = top, crate, FOLDERS[crate]
@@ -393,10 +393,10 @@ def folders_touched(folder: str):
 
 
 def main(words: list[str]) -> int:
-    """Prints the path of the program that `./pico` runs, or where its crate is named of the one that explains refusals;
-    with --proved in front of the proved one, or else of the one that is named."""
+    """Prints the path of the program that `./pico` runs, or where its crate is named of the one that explains refusals or
+    the one with gates; with --proved in front of the proved one, or else of the one that is named."""
     is_proved = words[:1] == ["--proved"]
-    crate = EXPLAIN if words[is_proved:] == [EXPLAIN] else PICO
+    crate = words[-1] if words[is_proved:] in ([EXPLAIN], [GATES]) else PICO
     here = Programs(os.path.dirname(os.path.dirname(os.path.realpath(__file__))), crate)
     try:
         print(here.proved_or_fail() if is_proved else here.to_run())
