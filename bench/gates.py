@@ -58,7 +58,7 @@ class Script:
         self.names = ["main", *(f"w{k}" for k in range(1, self.drawn.choice((2, 2, 3, 3, 4, 5, 8))))]
         self.left = self.names[1:]
         self.blocks = []
-        self.waits = self.drawn.choice((0.0, 0.1, 0.4))
+        self.waits = self.drawn.choice((0.0, 0.2, 0.6))
         shared = [f"{var} = {call}" for var, call in (("q", "msgget private"), ("r", "msgget private"), ("s", "semget private 3"))]
         self.block("main", shared[: self.drawn.choice((1, 2, 3, 3))], [])
 

@@ -14,7 +14,7 @@ PROGRAM = TOP / "crates/journal_bench/out/journal_bench"
 
 def seconds(program: pathlib.Path, threads: int, appends: int) -> float:
     done = subprocess.run([program, str(threads), str(appends)], capture_output=True, check=True)
-    return float(done.stdout)
+    return float(done.stdout.split()[0])
 
 
 def main() -> None:

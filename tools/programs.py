@@ -1,6 +1,7 @@
 #!/usr/bin/env python3
 """The programs that `./pico` runs, each kept beside what its sources were when its build began: `pico`, and the one
-that says why `pico` refused what it was given. Beside them the one that runs scripts under gates, which tests run.
+that says why `pico` refused what it was given. Beside them two that tests run: one that runs scripts under gates, and one that
+appends to a journal.
 
 Of each a proved program and an unproved one are kept in folders of out/pico and out/pico_explain. One of them is run
 only where the sources are the very files that it was built of, none changed, gone or new: by their sizes and times, and
@@ -23,10 +24,11 @@ import time
 # what of a crate its program is made of
 PARTS = ("src", "specs", "proofs")
 # the crates of the programs; the variables that name another program; and the words of the run behind a proof
-PICO, EXPLAIN, GATES = "pico_cmd", "pico_explain", "gate_bench"
-FOLDERS = {PICO: "pico", EXPLAIN: "pico_explain", GATES: "gate_bench"}
-VARIABLES = {PICO: "PICO", EXPLAIN: "PICO_EXPLAIN", GATES: "GATE_BENCH"}
-TRIED = {PICO: (["sim"], "examples/hello.pico"), EXPLAIN: ([], None), GATES: (["open"], "examples/hello.pico")}
+PICO, EXPLAIN, GATES, JOURNAL = "pico_cmd", "pico_explain", "gate_bench", "journal_bench"
+FOLDERS = {PICO: "pico", EXPLAIN: "pico_explain", GATES: "gate_bench", JOURNAL: "journal_bench"}
+VARIABLES = {PICO: "PICO", EXPLAIN: "PICO_EXPLAIN", GATES: "GATE_BENCH", JOURNAL: "JOURNAL_BENCH"}
+HELLO = "examples/hello.pico"
+TRIED = {PICO: (["sim"], HELLO), EXPLAIN: ([], None), GATES: (["open"], HELLO), JOURNAL: (["1", "1"], None)}
 # how often a build is begun again where a source is touched while it goes on
 BUILDS = 3
 # the lines of a build's log that are shown where it fails
@@ -394,9 +396,9 @@ def folders_touched(folder: str):
 
 def main(words: list[str]) -> int:
     """Prints the path of the program that `./pico` runs, or where its crate is named of the one that explains refusals or
-    the one with gates; with --proved in front of the proved one, or else of the one that is named."""
+    one that tests run; with --proved in front of the proved one, or else of the one that is named."""
     is_proved = words[:1] == ["--proved"]
-    crate = words[-1] if words[is_proved:] in ([EXPLAIN], [GATES]) else PICO
+    crate = words[-1] if words[is_proved:] in ([EXPLAIN], [GATES], [JOURNAL]) else PICO
     here = Programs(os.path.dirname(os.path.dirname(os.path.realpath(__file__))), crate)
     try:
         print(here.proved_or_fail() if is_proved else here.to_run())

@@ -1,9 +1,9 @@
 //! Runs the script on standard input with threads under a gate that its words name, and writes its trace with its
 //! events, as `pico run --steps` does. `bench/gates.py` makes many such runs, and `.ci/hostile` some.
 //!
-//! The words are one of `open`, `hold NODE until OTHER TURN`, `each NODES PASSES` and `random SEED`. Its exit status is 0,
-//! or 6 where processes wait for good; 1 and 2 where the script or the words aren't in order, and nothing is written; 3,
-//! 4 and 5 where memory, reading or writing fails; and 9 where a gate waited for what didn't come.
+//! The words are one of `open`, `hold NODE until OTHER TURN`, `each NODES PASSES` and `random SEED`. Its exit status is
+//! 0, or 6 where processes wait for good; 1 and 2 where the script or the words aren't in order, and nothing is
+//! written; 3, 4 and 5 where memory, reading or writing fails; and 9 where a gate waited for what didn't come.
 #![tactic(auto)]
 
 mod holding;

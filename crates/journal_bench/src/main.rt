@@ -1,5 +1,5 @@
 //! Times appends to one journal. The words are the number of threads, each with a seat of its own, and how many entries
-//! each appends, one at a time. It prints the seconds that they took.
+//! each appends, one at a time. It prints the seconds that they took, and how many entries were appended and refused.
 #![tactic(auto)]
 
 ghost use Rattle.std.specs.Prelude.{◌≡◌, ◌≤◌};
@@ -9,6 +9,7 @@ use journal_core::{JSeat, JournalLock};
 use pico_base::{Call, Entries, Entry, Memory, Node, Outcome, Pid, Reply};
 use std::alloc::Global;
 use std::sync::Wait;
+use std::sync::atomic::{AtomicU64, Ordering};
 use std::thread::Threads;
 use std::time::Instant;
 use std::{env, io, thread};
@@ -25,15 +26,49 @@ fn entry_of(alloc: Global) -> Result<Entries, Memory> {
     Ok(entries)
 }
 
+// How many entries were appended, and how many weren't for want of memory.
+#[derive(Drop)]
+struct Counts {
+    appended: AtomicU64,
+    refused: AtomicU64,
+}
+
+impl Counts {
+    fn note(&self, is_appended: bool) {
+        let count = if is_appended {
+            &self.appended
+        } else {
+            &self.refused
+        };
+        count.fetch_add(1, Ordering::SeqCst);
+    }
+}
+
+// Appends an entry. False: memory was refused.
+fn append_one<R: Wait>(rt: &R, alloc: Global, lock: &JournalLock, seat: &mut JSeat) -> bool
+    requires { seat.old.lock ≡ lock.now.id }
+    ensures { (seat.new.lock ≡ seat.old.lock) × (seat.new.number ≡ seat.old.number) }
+{
+    match entry_of(alloc) {
+        Ok(entries) => lock.append(rt, seat, 0, entries).is_ok(),
+        Err(_) => false,
+    }
+}
+
 // Appends so many entries, as far as memory goes.
-fn append_many<R: Wait>(rt: &R, alloc: Global, lock: &JournalLock, seat: &mut JSeat, times: u32)
+fn append_many<R: Wait>(
+    rt: &R,
+    alloc: Global,
+    lock: &JournalLock,
+    seat: &mut JSeat,
+    times: u32,
+    counts: &Counts,
+)
     requires { seat.old.lock ≡ lock.now.id }
     ensures { (seat.new.lock ≡ seat.old.lock) × (seat.new.number ≡ seat.old.number) }
 {
     for _ in 0..times {
-        if let Ok(entries) = entry_of(alloc) {
-            let _ = lock.append(rt, seat, 0, entries);
-        }
+        counts.note(append_one(rt, alloc, lock, seat));
     }
 }
 
@@ -50,6 +85,7 @@ fn append_by_all<R: Threads + Wait + Sync>(
     seats: &mut Vec<JSeat>,
     threads: usize,
     times: u32,
+    counts: &Counts,
 )
     requires threads { 1 ≤ threads }
     requires seats { AreNumbered lock.now.id 1 seats.old.items }
@@ -60,7 +96,7 @@ fn append_by_all<R: Threads + Wait + Sync>(
         threads,
         &|_, seat: &mut JSeat|
             requires { seat.now.lock ≡ lock.now.id }
-        { append_many(rt, alloc, lock, seat, times) },
+        { append_many(rt, alloc, lock, seat, times, counts) },
     );
 }
 
@@ -77,8 +113,25 @@ fn main(rt: HostRuntime) -> io::Result<()> {
         return Ok(());
     };
     let mut seats = seats.into_vec();
+    let counts = Counts {
+        appended: AtomicU64::new(0),
+        refused: AtomicU64::new(0),
+    };
     let start = Instant::now(&rt)?;
-    append_by_all(&rt, rt.alloc(), &lock, &mut seats, threads as usize, times);
+    append_by_all(
+        &rt,
+        rt.alloc(),
+        &lock,
+        &mut seats,
+        threads as usize,
+        times,
+        &counts,
+    );
     let took = start.elapsed(&rt)?;
-    println!(rt; "{}.{:09}", took.as_secs(), took.subsec_nanos())
+    println!(rt; "{}.{:09}", took.as_secs(), took.subsec_nanos())?;
+    let (appended, refused) = (
+        counts.appended.load(Ordering::SeqCst),
+        counts.refused.load(Ordering::SeqCst),
+    );
+    println!(rt; "appended {appended} refused {refused}")
 }

@@ -53,7 +53,7 @@ fn turns_and_journal<R: Wait>(
     requires sound { IsSoundScript script.now }
     requires two { node_count script.now ≡ 2 }
 {
-    let mut two = Two::new(alloc, script)?;
+    let mut two = Two::new(rt, alloc, script, &[])?;
     let all = all_turn(rt, &mut two, script);
     Ok((all, two.close(alloc, script)?))
 }

@@ -14,20 +14,32 @@ use pico_base::{Memory, Node, Script};
 use std::alloc::Global;
 use std::mem::ManuallyDrop;
 use std::sync::Wait;
-use stream_pair::{Bell, Company, pair_to};
+use stream_pair::{Bell, Company, Out, pair_to};
 
 /// A node that is never taken apart, so that its owners are cheaper to prove.
 type Kept = ManuallyDrop<Logged>;
 
 /// The journal's lock, and the two nodes that append to it.
+#[derive(Drop)]
 pub struct Two {
     pub lock: JournalLock,
     pub first: Kept,
     pub second: Kept,
 }
 
-/// The ends of node 1 and those of node 2.
-fn ends_of_two(alloc: Global) -> Result<(End, End), Memory>
+/// Bytes that stand in a stream before its sender sends any, each with its stamp and in pieces of its own.
+pub type Planted = &'static [(u64, &'static [u8])];
+
+/// The stream's end, where these bytes were sent.
+fn planted_in<R: Wait>(rt: &R, mut out: Out, planted: Planted) -> Result<Out, Memory> {
+    for (stamp, bytes) in planted {
+        out.send(rt, *stamp, bytes)?;
+    }
+    Ok(out)
+}
+
+/// The ends of node 1 and those of node 2, in whose stream these bytes stand.
+fn ends_of_two<R: Wait>(rt: &R, alloc: Global, planted: Planted) -> Result<(End, End), Memory>
     ensures others { IfOk result (λ ends. (ends.0.other ≡ 2) × (ends.1.other ≡ 1)) }
     ensures new { IfOk result (λ ends. IsUntaken ends.0 × IsUntaken ends.1) }
 {
@@ -37,7 +49,7 @@ fn ends_of_two(alloc: Global) -> Result<(End, End), Memory>
     let (back, from) = pair_to(alloc, &bell)?;
     let first = End {
         other: Node(2),
-        out,
+        out: planted_in(rt, out, planted)?,
         into: from,
     };
     let second = End {
@@ -102,14 +114,19 @@ fn seats_of(alloc: Global, first: Kept, second: Kept) -> Result<Seats, Memory>
 impl Two {
     ghost use Rattle.log_tests.specs.Two.{AreTwo};
 
-    /// Two nodes that have made no turn, of a script with two blocks.
-    pub fn new(alloc: Global, script: &Script) -> Result<Two, Memory>
+    /// Two nodes that have made no turn, of a script with two blocks. In the stream to node 2 these bytes stand.
+    pub fn new<R: Wait>(
+        rt: &R,
+        alloc: Global,
+        script: &Script,
+        planted: Planted,
+    ) -> Result<Two, Memory>
         requires { node_count script.now ≡ 2 }
         ensures { IfOk result (λ two. AreTwo script.now two.lock two.first.value two.second.value) }
     {
         let (lock, seats) = JournalLock::new(alloc, 2)?;
         let (seat, other_seat) = two_of(seats);
-        let (end, other_end) = ends_of_two(alloc)?;
+        let (end, other_end) = ends_of_two(rt, alloc, planted)?;
         Ok(Two {
             lock,
             first: node_by(alloc, script, end, seat)?,
