@@ -1,1 +1,7 @@
 mod Trips
+mod QueueCalls
+mod OtherCalls
+mod QueueLines
+mod QueueSteps
+mod GivenScripts
+mod SystemSound

@@ -3,13 +3,13 @@
 #![tactic(auto)]
 
 mod follow;
+mod forms;
 mod read;
+mod says;
 mod script;
 mod show;
-mod stand_in;
 mod system_v;
 mod text;
-mod words;
 
 pub use mq_model::MqErrno;
 pub use read::read_mq;

@@ -1,93 +1,79 @@
-//! A script of POSIX message queues, and the script of System V that runs it.
+//! A script of POSIX message queues, line after line.
 
-ghost use Rattle.std.specs.Prelude.{◌≡◌, ◌⊎◌, ℕ, IfOk, IfErr, Ok, Err};
+ghost use Rattle.std.specs.Prelude.{◌≡◌, ◌⊎◌, ◌≤◌, ℕ, IfOk, IfErr, Ok, Err, length};
 ghost use Rattle.pico_base.specs.declared.script.Script.{Script as ScriptValue};
 ghost use Rattle.script_reader.specs.declared.fault.ScriptFault.{ScriptFault as FaultValue};
 ghost use Rattle.kernel_model.specs.Script.{IsSoundScript};
+ghost use Rattle.script_reader.specs.Words.{lines_of};
+ghost use Rattle.script_reader.specs.Fault as spec;
+ghost use Rattle.mq_model.specs.Reading as reading;
 ghost use Rattle.mq_model.specs.Reading.{HasFault, IsFirstFault, Reads};
-ghost use Rattle.mq_model.specs.SystemV as system;
+ghost use Rattle.mq_model.specs.Given.{IsGiven};
+ghost use Rattle.mq_model.specs.Lines.{script_given};
+ghost use Rattle.mq_model.specs.SystemV.{system_v};
 
-use crate::stand_in::StandIn;
-use crate::system_v::system_v;
-use pico_base::{Block, Call, Line, Script};
-use script_reader::{MAX_BYTES, ScriptFault, ScriptStop, line_of_byte, read_script, valid_len};
+use crate::says::read_mq_line;
+use crate::script::MqScript;
+use pico_base::{Blocks, Script};
+use script_reader::{
+    MAX_BYTES, Names, Place, Said, ScriptFault, ScriptStop, block_names, ending, fault_of,
+    line_of_byte, next_line, valid_len,
+};
 use std::alloc::Global;
 
-/// A script of POSIX message queues: `given` has its lines, with the calls on queues in System V's words, and `script`
-/// is the script of System V that runs it, line for line.
-///
-/// In `given` an `mqopen` is a `msgget` with the number of the queue's name as its key; an `mqsend` is a `msgsnd` with
-/// the priority as its type; an `mqreceive` is a `msgrcv` of type 0; an `mqgetattr` is a `msgctl` with `stat`. It has
-/// no other calls on queues.
-#[derive(Debug, PartialEq, Eq, Drop)]
-pub struct MqScript {
-    pub script: Script,
-    pub given: Script,
-}
-
-/// Puts `mqgetattr` in the place of the call that stands for it.
-fn ask(line: &mut Line) {
-    if let Call::SemOp { id, .. } = &line.call {
-        let id = *id;
-        line.call = Call::MsgStat { id };
-    }
-}
-
-/// The same in each line that asks for attributes. The answer is where the lines behind these begin in `asks`.
-fn ask_in(lines: &mut Vec<Line>, asks: &[bool], from: usize) -> usize {
-    let mut at = from;
-    for line in lines {
-        if asks.get(at) == Some(&true) {
-            ask(line);
+/// The blocks of a text in which the blocks have these names.
+fn blocks_with(alloc: Global, names: &Names, text: &[u8]) -> Result<Blocks, ScriptStop>
+    requires { length text.now ≤ 1048576 }
+    ensures { spec.GivesBlocks result
+        (reading.mq_blocks_from names.now (spec.start (length names.now)) 1 (lines_of text.now)) }
+{
+    let mut place = Place::new(alloc, names.len())?;
+    let mut words = Vec::new(alloc);
+    let mut rest = text;
+    let mut number: u32 = 1;
+    while let Some((bytes, after)) = next_line(rest) {
+        let mut said = Said::Skipped;
+        read_mq_line(alloc, names, &mut words, bytes, &mut said)?;
+        if let Some(fault) = fault_of(&place, bytes.len(), &said) {
+            return Err(ScriptStop::At {
+                line: number,
+                fault,
+            });
         }
-        at += 1;
+        place.go_behind(alloc, said)?;
+        rest = after;
+        number += 1;
     }
-    at
-}
-
-/// The given script, by the one that was read of the text that stands for it.
-fn given_by(script: Script, asks: &[bool]) -> Script {
-    let mut blocks = script.blocks;
-    let mut at = 0;
-    for block in blocks.as_mut_vec() {
-        at = ask_in(block.lines.as_mut_vec(), asks, at);
-    }
-    Script { blocks }
+    ending(place, number)
 }
 
 /// A fault at the line of the byte behind so many.
-fn at_byte(count: usize, bytes: &[u8], fault: ScriptFault) -> ScriptStop {
+fn at_byte(count: usize, bytes: &[u8], fault: ScriptFault) -> ScriptStop
+    requires small { count ≤ 1048576 }
+    requires within { count ≤ length bytes.now }
+    ensures { result ≡ ScriptStop.At (spec.line_behind count bytes.now) fault }
+{
     ScriptStop::At {
         line: line_of_byte(count, bytes),
         fault,
     }
 }
 
-/// A script of at most 1,048,576 bytes of UTF-8.
-fn short_script(alloc: Global, bytes: &[u8]) -> Result<MqScript, ScriptStop> {
-    let stand_in = StandIn::of(alloc, bytes)?;
-    let read = read_script(alloc, &stand_in.text)?;
-    let given = given_by(read, &stand_in.asks);
-    let script = system_v(alloc, &given)?;
-    Ok(MqScript { script, given })
+/// A given script of at most 1,048,576 bytes.
+#[tactic(auto, unfolding(mq_model::specs::Reading::mq_blocks_of))]
+fn short_given(alloc: Global, bytes: &[u8]) -> Result<Script, ScriptStop>
+    requires { length bytes.now ≤ 1048576 }
+    ensures { spec.Gives result (spec.script_from (reading.mq_blocks_of (lines_of bytes.now))) }
+{
+    let names = block_names(alloc, bytes)?;
+    let blocks = blocks_with(alloc, &names, bytes)?;
+    Ok(Script { blocks })
 }
 
-/// The script that the bytes are the text of, with the calls of POSIX message queues in place of System V's. A fault is
-/// the first one, as `read_script` has it.
-pub fn read_mq(alloc: Global, bytes: &[u8]) -> Result<MqScript, ScriptStop>
-    // The bytes are the text of what is read, and it is run as it should be.
-    ensures ok { IfOk result (λ read. Reads bytes.now read.given) }
-    ensures runs { IfOk result (λ read. read.script ≡ system.system_v read.given) }
-    ensures sound { IfOk result (λ read. IsSoundScript read.given) }
-    ensures sound_script { IfOk result (λ read. IsSoundScript read.script) }
-    // A fault is the first one.
-    ensures fault { IfErr result (HasFault bytes.now) }
-    // A text of a script is read, and one with a fault is refused for it, unless memory runs out.
-    ensures only { (given : ScriptValue) → Reads bytes.now given
-        → (result ≡ Ok (record { script = system.system_v given; given = given }))
-        ⊎ (result ≡ Err ScriptStop.Memory) }
-    ensures only_fault { (line : ℕ) (fault : FaultValue) → IsFirstFault bytes.now line fault
-        → (result ≡ Err (ScriptStop.At line fault)) ⊎ (result ≡ Err ScriptStop.Memory) }
+/// The outcome of the whole text.
+#[tactic(auto, unfolding(mq_model::specs::Reading::outcome))]
+fn outcome_of(alloc: Global, bytes: &[u8]) -> Result<Script, ScriptStop>
+    ensures { spec.Gives result (reading.outcome bytes.now) }
 {
     if bytes.len() > MAX_BYTES {
         return Err(at_byte(MAX_BYTES, bytes, ScriptFault::ScriptTooLong));
@@ -96,5 +82,42 @@ pub fn read_mq(alloc: Global, bytes: &[u8]) -> Result<MqScript, ScriptStop>
     if valid < bytes.len() {
         return Err(at_byte(valid, bytes, ScriptFault::NotUtf8));
     }
-    short_script(alloc, bytes)
+    short_given(alloc, bytes)
+}
+
+/// The given script that the bytes are the text of: its calls on queues are in System V's words.
+fn read_given(alloc: Global, bytes: &[u8]) -> Result<Script, ScriptStop>
+    ensures ok { IfOk result (Reads bytes.now) }
+    ensures sound { IfOk result IsSoundScript }
+    ensures sound_script { IfOk result (λ given. IsSoundScript (system_v given)) }
+    ensures is_given { IfOk result IsGiven }
+    ensures fault { IfErr result (HasFault bytes.now) }
+    ensures only { (given : ScriptValue) → Reads bytes.now given → (result ≡ Ok given)
+        ⊎ (result ≡ Err ScriptStop.Memory) }
+    ensures only_fault { (line : ℕ) (fault : FaultValue) → IsFirstFault bytes.now line fault
+        → (result ≡ Err (ScriptStop.At line fault)) ⊎ (result ≡ Err ScriptStop.Memory) }
+{
+    outcome_of(alloc, bytes)
+}
+
+/// The script that the bytes are the text of, with the calls of POSIX message queues in place of System V's: the
+/// script of System V that runs it, and the given call of each line. A fault is the first one, as `read_script` has it.
+pub fn read_mq(alloc: Global, bytes: &[u8]) -> Result<MqScript, ScriptStop>
+    // The bytes are the text of what is read, and it is run as it should be.
+    ensures ok { IfOk result (λ read. Reads bytes.now (script_given read.script read.lines)) }
+    ensures runs { IfOk result (λ read. read.script ≡ system_v (script_given read.script read.lines)) }
+    ensures sound { IfOk result (λ read. IsSoundScript (script_given read.script read.lines)) }
+    ensures sound_script { IfOk result (λ read. IsSoundScript read.script) }
+    ensures is_given { IfOk result (λ read. IsGiven (script_given read.script read.lines)) }
+    // A fault is the first one.
+    ensures fault { IfErr result (HasFault bytes.now) }
+    // A text of a script is read, and one with a fault is refused for it, unless memory runs out.
+    ensures only { (given : ScriptValue) → Reads bytes.now given
+        → IfOk result (λ read. (script_given read.script read.lines ≡ given) × (read.script ≡ system_v given))
+        × IfErr result (λ stop. stop ≡ ScriptStop.Memory) }
+    ensures only_fault { (line : ℕ) (fault : FaultValue) → IsFirstFault bytes.now line fault
+        → (result ≡ Err (ScriptStop.At line fault)) ⊎ (result ≡ Err ScriptStop.Memory) }
+{
+    let given = read_given(alloc, bytes)?;
+    Ok(MqScript::of(alloc, &given)?)
 }
