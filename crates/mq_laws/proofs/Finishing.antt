@@ -1,5 +1,5 @@
 -- The caller's marks after a call on queues.
-use Rattle.std.proofs.Common.{◌≡◌, ◌∙◌, ℕ, Bool, true, false, nat_eq, List, [], ◌∷◌, Option, Some, None, is_some, refl, ap, sym, subst, Ordering}
+use Rattle.std.proofs.Common.{◌≡◌, ◌∙◌, ℕ, Bool, true, false, nat_eq, [], ◌∷◌, Option, Some, None, is_some, refl, ap, sym, subst, Ordering}
 use Rattle.std.specs.Prelude.{if◌then◌else◌}
 use Rattle.std.specs.declared.cmp.Ordering.TheVariants.{Less, Equal, Greater}
 use Rattle.std.specs.List.{AllByRecursion}
@@ -13,10 +13,10 @@ use Rattle.number_maps.specs.Maps.{Numbered, get, put}
 use Rattle.number_maps.specs.Rising.{IsRising}
 use Rattle.number_maps.proofs.Changes.{less-none, put-put}
 use Rattle.number_maps.proofs.LookUps.{get-put-same}
-use Rattle.number_maps.proofs.Order.{cmp-same, equal-same, less-apart, greater-apart, eq-same}
+use Rattle.number_maps.proofs.Order.{equal-same, less-apart, greater-apart, eq-same}
 use Rattle.number_maps.proofs.Rising.{rising-put, rising-rest}
 use Rattle.waiting_model.specs.Marks.{Alive, after_reply, spent}
-use Rattle.waiting_model.specs.Kernel.{Kernel, Process, Living, Ended, Gone, alive_in, living_at, living_in, where_living, change_living, with_alive}
+use Rattle.waiting_model.specs.Kernel.{Kernel, Process, Living, Ended, Gone, alive_in, living_at, where_living, change_living, with_alive}
 use Rattle.waiting_model.specs.Transition.{allowance_after, marks_after, finish_call}
 use Rattle.mq_model.specs.Transition.{after_call}
 

@@ -1,5 +1,5 @@
 -- Each line that is left to a process is one of the given script.
-use Rattle.std.proofs.Common.{◌≡◌, ◌∙◌, ℕ, ◌+◌, ◌-◌, Bool, true, false, List, [], ◌∷◌, Option, Some, None, refl, ap, sym, subst}
+use Rattle.std.proofs.Common.{◌≡◌, ℕ, ◌+◌, ◌-◌, Bool, true, false, List, [], ◌∷◌, Option, Some, None, refl}
 use Rattle.std.specs.Prelude.{if◌then◌else◌, fold, slice_get}
 use Rattle.std.specs.List.{list_all}
 use Rattle.std.proofs.lemmas.Bool.{and_parts, and_from}
@@ -13,8 +13,8 @@ use Rattle.pico_base.specs.declared.script.Block.{Block}
 use Rattle.pico_base.specs.declared.script.Script.{Script}
 use Rattle.number_maps.specs.Maps.{get, put}
 use Rattle.kernel_model.specs.Script.{Vars, is_exit, with_exit}
-use Rattle.kernel_model.specs.Fitting.{Place, after_line, after_reply, block_at, block_place, child_vars, due, is_due_again, is_killed, move_on, place_after, vars_after}
-use Rattle.waiting_model.specs.Fitting.{Places, Progress, after_entry, after_fork, after_own, after_wake, after_withdrawal, after_woken, answered, at_place, opening_places, places_after, woken_at}
+use Rattle.kernel_model.specs.Fitting.{Place, block_at, block_place, child_vars, due, is_due_again, is_killed, place_after, vars_after}
+use Rattle.waiting_model.specs.Fitting.{Places, Progress, after_entry, after_fork, after_own, after_wake, after_woken, answered, at_place, opening_places, places_after, woken_at}
 use Rattle.waiting_model.specs.Plain.{AllValues}
 use Rattle.waiting_laws.proofs.Maps.{all-get, all-put}
 use Rattle.mq_model.specs.Given.{IsGiven, is_given_block, is_given_line}

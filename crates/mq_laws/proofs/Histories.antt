@@ -1,34 +1,31 @@
 -- The history that a journal stands for, entry by entry.
-use Rattle.std.proofs.Common.{◌≡◌, ◌∙◌, ℕ, Bool, true, false, List, [], ◌∷◌, map, Option, Some, None, refl, ap, sym, subst, inl, inr}
+use Rattle.std.proofs.Common.{◌≡◌, ◌∙◌, ℕ, List, [], ◌∷◌, map, Option, Some, None, refl, ap, sym, subst, inl, inr}
 use Rattle.std.specs.List.{AllByRecursion}
-use Rattle.std.specs.Option.{option_map, option_and_then}
+use Rattle.std.specs.Option.{option_map}
 use Rattle.pico_base.specs.declared.call.Call.{Call}
 use Rattle.pico_base.specs.declared.call.Call.TheVariants as calls
 use Rattle.pico_base.specs.declared.reply.Entry.{Entry}
-use Rattle.pico_base.specs.declared.reply.Outcome.{Outcome}
 use Rattle.pico_base.specs.declared.reply.Reply.{Reply}
 use Rattle.pico_base.specs.declared.reply.Reply.TheVariants as replies
 use Rattle.pico_base.specs.declared.script.Line.{Line}
 use Rattle.pico_base.specs.declared.script.Script.{Script}
-use Rattle.std.specs.Prelude.{ℤ, pos, negsuc, ◌⊎◌}
+use Rattle.std.specs.Prelude.{pos, negsuc}
 use Rattle.number_maps.specs.Maps.{get}
 use Rattle.kernel_model.specs.History.{number_in}
 use Rattle.waiting_model.specs.Kernel as plain
 use Rattle.waiting_model.specs.History as plain_history
 use Rattle.waiting_model.specs.Transition.{Successor, successor, transition}
-use Rattle.waiting_model.specs.Fitting as fitting
 use Rattle.waiting_model.specs.Fitting.{FitsFrom, IsNext, IsOver, Places, Progress, opening_places, places_after}
 use Rattle.waiting_laws.proofs.Maps.{get-each, all-get}
 use Rattle.waiting_laws.proofs.ParkWaits.{opening-sound}
-use Rattle.mq_model.specs.declared.errno.MqErrno.{MqErrno}
-use Rattle.mq_model.specs.Calls.{MqCall, MqEntry, MqOutcome, MqReply, Open, Send, Receive, GetAttr, Other, Plain, Refused}
+use Rattle.mq_model.specs.Calls.{MqCall, MqEntry, MqOutcome, Open, Send, Receive, GetAttr, Other, Plain, Refused}
 use Rattle.mq_model.specs.Kernel.{MqKernel, opening}
 use Rattle.mq_model.specs.History as mq
 use Rattle.mq_model.specs.History.{IsLegal, Replays}
-use Rattle.mq_model.specs.Fitting.{Fits, FitsWhole, written}
+use Rattle.mq_model.specs.Fitting.{written}
 use Rattle.mq_model.specs.Given.{IsGiven}
 use Rattle.mq_model.specs.Shown.{history_from, history_of, places_behind, shown_at}
-use Rattle.mq_model.specs.SystemV.{given_call, shown_call, shown_on_queues, shown_outcome, shown_own, shown_plainly, shown_refused, shown_reply, system_v, system_v_line}
+use Rattle.mq_model.specs.SystemV.{given_call, shown_call, shown_on_queues, shown_outcome, shown_own, system_v, system_v_line}
 use Rattle.mq_model.specs.Transition as mq_steps
 use Rattle.mq_model.specs.Transition.{MqSuccessor, alone, mq_transition}
 use Rattle.mq_laws.specs.Alike.{Alike}
@@ -36,7 +33,7 @@ use Rattle.mq_laws.specs.Together.{LeadAlike, LeadsAlike}
 use Rattle.mq_laws.specs.Histories.{HistoriesAreLegal, HistoriesFit, HistoriesFitWhole}
 use Rattle.mq_laws.proofs.Due.{Stands, Plainly, Refused as RefusedBy, stands, written-again}
 use Rattle.mq_laws.proofs.GivenPlaces.{AreGiven, IsGivenProgress, given-places, opening-given}
-use Rattle.mq_laws.proofs.Places.{system_v_place, system_v_progress, system_v_places, same-opening, same-places}
+use Rattle.mq_laws.proofs.Places.{system_v_progress, system_v_places, same-opening, same-places}
 use Rattle.mq_laws.proofs.Together.{calls-together, refusals-together}
 use Rattle.mq_laws.proofs.Written.{looks-pending, plainly-same, refused-same}
 
@@ -230,21 +227,21 @@ fits-along given is_given (e ∷ es) k last places to all r f =
     in let m : Moves given places e p (shown_at e (Some p)) =
     entry-moves given places k r.next e p r.step (stands-here given is_given places all e es to f)
     in let rest : FitsOn given (places_after given places e p)
-        (history_from given (places_after given places e p) es) to =
-        fits-along given is_given es r.next last (places_after given places e p) to
-        (rest-given given is_given places all e es to f) r.rest (rest-fits given is_given places all e es to f)
+    (history_from given (places_after given places e p) es) to =
+    fits-along given is_given es r.next last (places_after given places e p) to
+    (rest-given given is_given places all e es to f) r.rest (rest-fits given is_given places all e es to f)
     in let first : FitsFrom given places
-        (map written (shown_at e (Some p) ∷ history_from given (places_after given places e p) es)) rest.last =
-        record {
-          progress = p;
-          there = ap (get places) m.pid ∙ at.there;
-          next = m.next;
-          rest =
-              subst
-              (λ (x : Places).
-              FitsFrom given x (map written (history_from given (places_after given places e p) es)) rest.last)
-              (sym m.same) rest.fits;
-        }
+    (map written (shown_at e (Some p) ∷ history_from given (places_after given places e p) es)) rest.last =
+    record {
+      progress = p;
+      there = ap (get places) m.pid ∙ at.there;
+      next = m.next;
+      rest =
+          subst
+          (λ (x : Places).
+          FitsFrom given x (map written (history_from given (places_after given places e p) es)) rest.last)
+          (sym m.same) rest.fits;
+    }
     in subst
     (λ (o : Option Progress).
     FitsOn given places (shown_at e o ∷ history_from given (places_behind given places e o) es) to)

@@ -1,6 +1,6 @@
 -- The messages of a queue beside those that they stand for: how many bytes they have, and which is taken next.
-use Rattle.std.proofs.Common.{◌≡◌, ◌≢◌, ◌∙◌, ℕ, zero, suc, ◌+◌, ◌-◌, ◌*◌, ◌<◌, ◌≤◌, ℤ, pos, negsuc, Bool, true, false, cond, not, ◌&&◌, nat_eq, List, [], ◌∷◌, ◌++◌, length, map, Option, Some, None, refl, ap, sym, subst, inl, inr, arith, leb-true, le-leb, lt-ltb, le-ltb, eq-eqb, ne_eqb}
-use Rattle.std.specs.Prelude.{if◌then◌else◌, nat_lt, nat_le, int_le, int_lt, take, drop, slice_get, position, remove, sum_by}
+use Rattle.std.proofs.Common.{◌≡◌, ◌≢◌, ◌∙◌, ℕ, zero, suc, ◌+◌, ◌*◌, ◌≤◌, ℤ, pos, negsuc, Bool, true, false, not, nat_eq, List, [], ◌∷◌, ◌++◌, length, map, Some, refl, ap, sym, inl, inr, arith, leb-true, le-leb, lt-ltb, le-ltb, eq-eqb, ne_eqb}
+use Rattle.std.specs.Prelude.{if◌then◌else◌, nat_lt, nat_le, take, drop, slice_get, remove}
 use Rattle.std.specs.List.{AllByRecursion, list_all, prefix_len, position_or_len}
 use Rattle.std.specs.Ordering.{int_eq}
 use Rattle.std.proofs.lemmas.Bool.{true≢false, cases_eq, cases_order, cases_Bool, and_parts, and_from}
@@ -9,7 +9,7 @@ use Rattle.std.proofs.lemmas.List.{length-map, map-append}
 use Rattle.std.proofs.lemmas.List.Sums.{sum_by-cons}
 use Rattle.kernel_model.specs.Queue as plain
 use Rattle.kernel_model.specs.Queue.{Queue, bytes_of, lower_of, lowest_upto, first_of}
-use Rattle.mq_model.specs.Queue.{Message, max_text, higher, highest, oldest_of}
+use Rattle.mq_model.specs.Queue.{Message, max_text, highest, oldest_of}
 use Rattle.mq_model.specs.SystemV.{turned}
 use Rattle.mq_laws.specs.Alike.{shown_message, is_turned, stands_for_message}
 
@@ -172,9 +172,9 @@ pub same-place : (d : ℕ) → d ≤ 32 → (ms : List plain.Message) → list_a
     → first_of (pos d) ms ≡ oldest_of (turned d) (map shown_message ms)
 same-place d hd ms h =
     let at : position_or_len (λ m. int_eq m.class (pos d)) ms
-        ≡ position_or_len (λ m. nat_eq m.priority (turned d)) (map shown_message ms) =
-        place-map (λ m. not (int_eq m.class (pos d))) (λ m. not (nat_eq m.priority (turned d))) ms
-        (tests-agree d hd ms h)
+    ≡ position_or_len (λ m. nat_eq m.priority (turned d)) (map shown_message ms) =
+    place-map (λ m. not (int_eq m.class (pos d))) (λ m. not (nat_eq m.priority (turned d))) ms
+    (tests-agree d hd ms h)
     in rw (at, length-map ms shown_message) refl
 
 -- ---- what is left

@@ -1,19 +1,18 @@
 -- What a call on queues comes to: its reply at once, with nobody woken and no process changed.
-use Rattle.std.proofs.Common.{◌≡◌, ◌∙◌, ℕ, Bool, true, false, List, [], ◌∷◌, map, Option, Some, None, is_some, refl, ap, sym, subst}
+use Rattle.std.proofs.Common.{◌≡◌, ◌∙◌, ℕ, Bool, true, false, List, [], Option, Some, None, refl, ap, sym, subst}
 use Rattle.std.specs.Prelude.{if◌then◌else◌}
 use Rattle.std.specs.Option.{option_map}
 use Rattle.pico_base.specs.declared.call.Call.{Call}
 use Rattle.pico_base.specs.declared.numbers.Name.{Name}
-use Rattle.pico_base.specs.declared.reply.Errno.{Errno}
 use Rattle.pico_base.specs.declared.reply.Errno.TheVariants.{Einval}
 use Rattle.pico_base.specs.declared.reply.Reply.{Reply}
 use Rattle.pico_base.specs.declared.reply.Reply.TheVariants.{Fail}
-use Rattle.number_maps.specs.Maps.{Numbered, get, put}
+use Rattle.number_maps.specs.Maps.{Numbered, get}
 use Rattle.number_maps.specs.Rising.{IsRising}
 use Rattle.kernel_model.specs.Queue as plain_queues
 use Rattle.waiting_model.specs.declared.callers.Waiting.{Waiting}
 use Rattle.waiting_model.specs.Calls.{withdrawn_from}
-use Rattle.waiting_model.specs.Waiters.{Attempt, Awaited, Carried, attempt, awaited, refused, unawaited, waiter, carry_out_by}
+use Rattle.waiting_model.specs.Waiters.{Attempt, Awaited, attempt, awaited, unawaited, waiter, carry_out_by}
 use Rattle.waiting_model.specs.Queue.{try_queue, carry_out_on_queue}
 use Rattle.waiting_model.specs.Marks.{Alive}
 use Rattle.waiting_model.specs.Kernel.{Kernel, Process, living_at, change_living}
@@ -21,11 +20,10 @@ use Rattle.waiting_model.specs.Plain.{AllValues, each}
 use Rattle.waiting_model.specs.Effect.{Effect, on_named, replying, outcome_of_effect}
 use Rattle.waiting_model.specs.QueueCalls as plain_calls
 use Rattle.waiting_model.specs.QueueCalls.{with_queue, queue_effect}
-use Rattle.waiting_model.specs.Transition.{Successor, successor, effect, may_make, finish_call, outcome_of, step_by, transition_by, transition}
+use Rattle.waiting_model.specs.Transition.{successor, effect, may_make, finish_call, outcome_of, step_by, transition_by, transition}
 use Rattle.waiting_laws.proofs.Maps.{get-each, put-each, put-same, all-get, all-put}
-use Rattle.mq_model.specs.declared.errno.MqErrno.TheVariants.{Ebadf}
 use Rattle.mq_model.specs.Queue as mq_queues
-use Rattle.mq_model.specs.Calls.{MqCall, MqReply, MqOutcome, Refused}
+use Rattle.mq_model.specs.Calls.{MqCall}
 use Rattle.mq_model.specs.Kernel.{MqKernel}
 use Rattle.mq_model.specs.SystemV.{shown_reply, shown_on_queues, shown_outcome}
 use Rattle.mq_model.specs.Transition as mq
@@ -68,16 +66,16 @@ module _ (k : Kernel) (rising : IsRising k.processes) (pid : ℕ) (shown : MqCal
   leads call a lives e f c =
       let j : Kernel = c.kernel
       in let done : finish_call j pid call (Some c.reply)
-          ≡ with_processes j (change_living j.processes pid after_call) =
-          finished-alike call a lives j c.processes c.reply
+      ≡ with_processes j (change_living j.processes pid after_call) =
+      finished-alike call a lives j c.processes c.reply
       in let at : LeadsShown (shown_outcome shown (outcome_of_effect (replying j c.reply)))
-          (successor (finish_call j pid call (Some c.reply)) (outcome_of_effect (replying j c.reply)))
-          (after_effect pid (mq.replying (shown_kernel j) (shown_reply shown c.reply))) =
-          record {
-            outcome_is = refl;
-            shown = ap shown_kernel (sym done);
-            queues = subst (λ (i : Kernel). AllValues StandsForQueue i.queues) (sym done) c.queues;
-          }
+      (successor (finish_call j pid call (Some c.reply)) (outcome_of_effect (replying j c.reply)))
+      (after_effect pid (mq.replying (shown_kernel j) (shown_reply shown c.reply))) =
+      record {
+        outcome_is = refl;
+        shown = ap shown_kernel (sym done);
+        queues = subst (λ (i : Kernel). AllValues StandsForQueue i.queues) (sym done) c.queues;
+      }
       in let P : Effect → Type 0 = λ x.
       LeadsShown (shown_outcome shown (outcome_of_effect x))
       (successor (finish_call x.kernel pid call x.own) (outcome_of_effect x)) (after_effect pid f)

@@ -1,6 +1,6 @@
 -- The calls that aren't on queues do the same in the kernel without its queues.
-use Rattle.std.proofs.Common.{◌≡◌, ◌∙◌, ℕ, Bool, true, false, not, nat_eq, List, [], ◌∷◌, Option, Some, None, Result, Ok, Err, is_some, refl, ap, sym, subst}
-use Rattle.std.specs.Prelude.{if◌then◌else◌, ◌%◌, ◌&&◌}
+use Rattle.std.proofs.Common.{◌≡◌, ◌∙◌, ℕ, Bool, true, false, not, nat_eq, List, [], Option, Some, None, Result, Ok, Err, is_some, refl, ap, sym, subst}
+use Rattle.std.specs.Prelude.{if◌then◌else◌, ◌&&◌}
 use Rattle.std.specs.List.{filter}
 use Rattle.std.proofs.lemmas.Bool.{true≢false}
 use Rattle.pico_base.specs.declared.call.Call.{Call}
@@ -10,7 +10,6 @@ use Rattle.pico_base.specs.declared.numbers.Name.TheVariants.{Proc, Msg, Sem}
 use Rattle.pico_base.specs.declared.reply.Errno.{Errno}
 use Rattle.pico_base.specs.declared.reply.Errno.TheVariants.{Eintr}
 use Rattle.pico_base.specs.declared.reply.Reply.TheVariants.{Fail}
-use Rattle.pico_base.specs.declared.reply.Ending.TheVariants as endings
 use Rattle.pico_base.specs.declared.reply.Reply.{Reply}
 use Rattle.pico_base.specs.declared.signal.SigArg.{SigArg}
 use Rattle.pico_base.specs.declared.signal.SigArg.TheVariants.{Zero, Is, Bad}
@@ -28,15 +27,15 @@ use Rattle.waiting_model.specs.Marks.{Alive, after_reply, spent}
 use Rattle.waiting_model.specs.Kernel.{Kernel, Process, Living, Ended, Gone, living_at, with_alive, change_living}
 use Rattle.waiting_model.specs.Plain.{AllValues}
 use Rattle.waiting_model.specs.Effect.{Effect, on_named, refuse, reply_with, outcome_of_effect}
-use Rattle.waiting_model.specs.ProcessCalls.{fork_effect, reap_child, action_effect, signal_living, kill_at, kill}
-use Rattle.waiting_model.specs.SetCalls.{new_set_of, get_set, get_set_at, find_set, set_size, on_set, remove_set}
+use Rattle.waiting_model.specs.ProcessCalls.{reap_child, action_effect, signal_living, kill_at, kill}
+use Rattle.waiting_model.specs.SetCalls.{new_set_of, get_set, get_set_at, on_set, remove_set}
 use Rattle.waiting_model.specs.Transition.{Successor, successor, effect, may_make, may_withdraw, allowance_after, marks_after, finish_call, outcome_of, queue_without, set_without, unparked, withdraw, step_by, transition_by, transition}
 use Rattle.waiting_laws.proofs.Maps.{put-same, all-get}
 use Rattle.mq_model.specs.Calls.{Other}
 use Rattle.mq_model.specs.SystemV.{shown_outcome}
 use Rattle.mq_model.specs.Transition.{is_on_queues, after_other, mq_transition}
 use Rattle.mq_laws.specs.Alike.{StandsForQueue, shown_kernel}
-use Rattle.mq_laws.proofs.Leads.{LeadsShown, LeadShown}
+use Rattle.mq_laws.proofs.Leads.{LeadShown}
 
 -- the kernel without its queues, and a kernel with the queues of another
 abbrev pub bare : Kernel → Kernel

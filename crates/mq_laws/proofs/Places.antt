@@ -1,6 +1,6 @@
 -- The places of the processes in the script of System V are those in the given script, line for line.
-use Rattle.std.proofs.Common.{◌≡◌, ◌∙◌, ℕ, ◌+◌, Bool, true, false, ◌&&◌, List, [], ◌∷◌, map, Option, Some, None, is_some, refl, ap, sym, subst}
-use Rattle.std.specs.Prelude.{if◌then◌else◌, fold, nat_lt, slice_get, ◌-◌}
+use Rattle.std.proofs.Common.{◌≡◌, ◌∙◌, ℕ, ◌+◌, Bool, true, false, ◌&&◌, List, [], ◌∷◌, map, Option, Some, None, is_some, refl, ap}
+use Rattle.std.specs.Prelude.{if◌then◌else◌, fold, nat_lt, ◌-◌}
 use Rattle.std.specs.Option.{option_map}
 use Rattle.std.proofs.lemmas.Option.{slice_get-map}
 use Rattle.pico_base.specs.declared.call.Call.{Call}
@@ -11,13 +11,12 @@ use Rattle.pico_base.specs.declared.reply.Reply.TheVariants as replies
 use Rattle.pico_base.specs.declared.script.Line.{Line}
 use Rattle.pico_base.specs.declared.script.Block.{Block}
 use Rattle.pico_base.specs.declared.script.Script.{Script}
-use Rattle.number_maps.specs.Maps.{Numbered, get, put}
-use Rattle.kernel_model.specs.Script.{Vars, call_from, call_of, with_target, is_exit, with_exit}
-use Rattle.kernel_model.specs.Fitting.{Place, after_reply, after_line, asks_again, block_at, block_place, call_due, child_vars, child_vars_at, due, is_due_again, is_killed, is_waitpid, move_on, place_after, value_in, vars_after}
-use Rattle.waiting_model.specs.Fitting.{Places, Progress, after_entry, after_fork, after_own, after_wake, after_withdrawal, after_woken, answered, at_place, opening_places, places_after, woken_at}
+use Rattle.number_maps.specs.Maps.{get, put}
+use Rattle.kernel_model.specs.Script.{Vars, call_from, call_of, is_exit, with_exit}
+use Rattle.kernel_model.specs.Fitting.{Place, after_reply, asks_again, block_at, block_place, child_vars, child_vars_at, due, is_due_again, is_killed, is_waitpid, move_on, place_after, value_in, vars_after}
+use Rattle.waiting_model.specs.Fitting.{Places, Progress, after_entry, after_fork, after_own, after_wake, after_woken, answered, at_place, opening_places, places_after, woken_at}
 use Rattle.waiting_model.specs.Plain.{each}
 use Rattle.waiting_laws.proofs.Maps.{get-each, put-each}
-use Rattle.mq_model.specs.declared.errno.MqErrno.{MqErrno}
 use Rattle.mq_model.specs.SystemV.{refusal_of, carried_out, system_v_call, system_v_line, system_v_block, system_v}
 
 -- ---- calls

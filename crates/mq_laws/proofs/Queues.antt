@@ -1,16 +1,13 @@
 -- Each call on queues beside the call that it stands for.
-use Rattle.std.proofs.Common.{◌≡◌, ◌∙◌, ℕ, zero, suc, ◌+◌, ◌-◌, ◌*◌, ◌<◌, ◌≤◌, ℤ, pos, negsuc, Bool, true, false, not, ◌&&◌, List, [], ◌∷◌, ◌++◌, length, map, Option, Some, None, Result, Ok, Err, is_some, refl, ap, sym, subst, arith, leb-true, le-leb, lt-ltb, le-ltb}
-use Rattle.std.specs.Prelude.{if◌then◌else◌, nat_lt, nat_le, int_le, take, slice_get, remove, ◌||◌}
+use Rattle.std.proofs.Common.{◌≡◌, ◌∙◌, ℕ, ◌+◌, ◌*◌, ◌<◌, ◌≤◌, ℤ, pos, negsuc, Bool, true, false, ◌&&◌, List, [], ◌∷◌, ◌++◌, length, map, Option, Some, None, refl, ap, sym, subst, arith, le-leb, le-ltb}
+use Rattle.std.specs.Prelude.{if◌then◌else◌, nat_lt, nat_le, int_le, take, slice_get, remove}
 use Rattle.std.specs.List.{list_all}
 use Rattle.std.specs.Option.{option_map}
 use Rattle.std.proofs.lemmas.Bool.{and_from, and_right, ltb-true}
 use Rattle.std.proofs.lemmas.List.{length-map, map-append, take_all}
 use Rattle.std.proofs.lemmas.Option.{slice_get-map}
-use Rattle.pico_base.specs.declared.call.Call.{Call}
 use Rattle.pico_base.specs.declared.call.Call.TheVariants as calls
-use Rattle.pico_base.specs.declared.reply.Errno.{Errno}
-use Rattle.pico_base.specs.declared.reply.Errno.TheVariants.{Einval, Eagain, Enoent, Eexist, Enomsg}
-use Rattle.pico_base.specs.declared.reply.Reply.{Reply}
+use Rattle.pico_base.specs.declared.reply.Errno.TheVariants.{Eagain, Enoent, Eexist, Enomsg}
 use Rattle.pico_base.specs.declared.reply.Reply.TheVariants.{Num, Fail, Message}
 use Rattle.number_maps.specs.Maps.{Numbered, get, put, used_with}
 use Rattle.number_maps.specs.Rising.{IsRising}
@@ -18,20 +15,20 @@ use Rattle.kernel_model.specs.Effect.{is_fresh}
 use Rattle.kernel_model.specs.Queue as plain_queues
 use Rattle.kernel_model.specs.Queue.{Queue, Received, empty_queue, bytes_of, has_room, is_sendable, first_of_some, lowest_upto, receive_at, receive_from, take_message}
 use Rattle.waiting_model.specs.declared.callers.Waiting.{Waiting}
-use Rattle.waiting_model.specs.Waiters.{Attempt, Awaited, attempt, unawaited, waiter}
-use Rattle.waiting_model.specs.Queue.{try_queue, try_send, try_receive, carry_out_on_queue}
+use Rattle.waiting_model.specs.Waiters.{Awaited, attempt, unawaited, waiter}
+use Rattle.waiting_model.specs.Queue.{try_queue, try_receive, carry_out_on_queue}
 use Rattle.waiting_model.specs.Kernel.{Kernel}
 use Rattle.waiting_model.specs.Plain.{AllValues, each}
-use Rattle.waiting_model.specs.Effect.{Effect, refuse, reply_with}
+use Rattle.waiting_model.specs.Effect.{refuse, reply_with}
 use Rattle.waiting_model.specs.QueueCalls as plain_calls
 use Rattle.waiting_model.specs.QueueCalls.{queue_effect}
 use Rattle.waiting_laws.proofs.Maps.{put-each, all-put}
-use Rattle.mq_model.specs.declared.errno.MqErrno.TheVariants.{Base, Ebadf}
+use Rattle.mq_model.specs.declared.errno.MqErrno.TheVariants.{Base}
 use Rattle.mq_model.specs.Queue as mq_queues
 use Rattle.mq_model.specs.Queue.{max_text, with_message, highest, oldest_of, oldest_of_highest}
-use Rattle.mq_model.specs.Calls.{MqCall, Open, Send, Receive, GetAttr, Number, Taken, Attributes}
+use Rattle.mq_model.specs.Calls.{Open, Send, Receive, GetAttr, Number, Attributes}
 use Rattle.mq_model.specs.Kernel.{MqKernel}
-use Rattle.mq_model.specs.SystemV.{turned, shown_on_queues}
+use Rattle.mq_model.specs.SystemV.{turned}
 use Rattle.mq_model.specs.Transition as mq
 use Rattle.mq_model.specs.Transition.{MqEffect, send_to, take_at, take_from}
 use Rattle.mq_laws.specs.Alike.{StandsForQueue, shown_message, shown_queue, shown_kernel, stands_for_message}
@@ -232,7 +229,7 @@ module _ (k : Kernel) (stand : AllValues StandsForQueue k.queues) (rising : IsRi
           in let short : length m.text ≤ size = let s : length m.text ≤ 16 = b.short in omega (arith, s, room_for)
           in let fits : nat_le (length m.text) size ≡ true = le-leb (length m.text) size short
           in let tried : try_receive q.state true (receive_at q.state pid size false place (Some m))
-              ≡ Some (attempt (left place) (Message m.class (take size m.text))) = rw fits refl
+          ≡ Some (attempt (left place) (Message m.class (take size m.text))) = rw fits refl
           in subst
           (λ (f : MqEffect). ComesTo k (Receive id size) (queue_effect k id (carry_out_on_queue q asks)) f)
           (rw (map-remove shown_message q.state.messages place, take_all size m.text short, b.is) refl)

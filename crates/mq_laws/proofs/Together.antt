@@ -1,13 +1,12 @@
 -- Kernels that are alike step together.
-use Rattle.std.proofs.Common.{◌≡◌, ◌∙◌, ℕ, ◌<◌, ◌≤◌, ℤ, pos, negsuc, Bool, true, false, not, ◌&&◌, List, length, Option, Some, None, is_some, refl, ap, sym, subst, leb-true}
-use Rattle.std.specs.Prelude.{if◌then◌else◌, nat_lt, nat_le, int_lt}
+use Rattle.std.proofs.Common.{◌≡◌, ℕ, ◌≤◌, ℤ, pos, negsuc, Bool, true, false, ◌&&◌, List, length, Option, Some, None, refl, ap, sym, subst, leb-true}
+use Rattle.std.specs.Prelude.{if◌then◌else◌, nat_lt, nat_le}
 use Rattle.std.specs.Ordering.{int_eq}
 use Rattle.std.proofs.lemmas.Bool.{true≢false, and_parts}
 use Rattle.std.proofs.lemmas.Bool.Decides.{Decides-int_eq}
 use Rattle.pico_base.specs.declared.call.Call.{Call}
 use Rattle.pico_base.specs.declared.call.Call.TheVariants as calls
 use Rattle.pico_base.specs.declared.reply.Reply.TheVariants.{Bits}
-use Rattle.number_maps.specs.Rising.{IsRising}
 use Rattle.waiting_model.specs.Effect.{replying, outcome_of_effect}
 use Rattle.waiting_model.specs.Kernel.{Kernel, living_at, change_living}
 use Rattle.waiting_model.specs.Marks.{Alive}
@@ -19,16 +18,16 @@ use Rattle.mq_model.specs.declared.errno.MqErrno.{MqErrno}
 use Rattle.mq_model.specs.declared.errno.MqErrno.TheVariants.{Base, Emsgsize}
 use Rattle.pico_base.specs.declared.reply.Errno.TheVariants.{Einval}
 use Rattle.mq_model.specs.Queue.{max_text}
-use Rattle.mq_model.specs.Calls.{MqCall, MqOutcome, Open, Send, Receive, GetAttr, Other, Refused}
+use Rattle.mq_model.specs.Calls.{MqOutcome, Open, Send, Receive, GetAttr, Refused}
 use Rattle.mq_model.specs.Kernel.{MqKernel}
-use Rattle.mq_model.specs.Given.{is_given_call, is_priority}
-use Rattle.mq_model.specs.SystemV.{refusal_of, refusal_of_send, given_call, shown_call, shown_outcome, turned}
+use Rattle.mq_model.specs.Given.{is_given_call}
+use Rattle.mq_model.specs.SystemV.{refusal_of, given_call, shown_call, shown_outcome, turned}
 use Rattle.mq_model.specs.Transition as mq
 use Rattle.mq_model.specs.Transition.{MqSuccessor, MqEffect, alone, after_call, after_effect, may_act, mq_transition, on_queues}
-use Rattle.mq_laws.specs.Alike.{Alike, StandsForQueue, shown_kernel, is_turned}
+use Rattle.mq_laws.specs.Alike.{StandsForQueue, shown_kernel, is_turned}
 use Rattle.mq_laws.specs.Together.{LeadAlike, is_carried_out, CallsStepTogether, RefusalsStepTogether, KernelsStepTogether}
 use Rattle.mq_laws.proofs.Finishing.{finished, with_processes}
-use Rattle.mq_laws.proofs.Leads.{LeadsShown, LeadShown}
+use Rattle.mq_laws.proofs.Leads.{LeadShown}
 use Rattle.mq_laws.proofs.Messages.{Turned, turned-class}
 use Rattle.mq_laws.proofs.OnQueues.{call-together}
 use Rattle.mq_laws.proofs.Others.{others-together}

@@ -1,5 +1,5 @@
 -- An entry that is shown, written again in System V's words, moves a process as the entry of the journal does.
-use Rattle.std.proofs.Common.{◌≡◌, ◌∙◌, ℕ, ℤ, pos, negsuc, Bool, true, false, ◌&&◌, List, [], ◌∷◌, Option, Some, None, refl, ap, sym, subst}
+use Rattle.std.proofs.Common.{◌≡◌, ◌∙◌, ℕ, pos, negsuc, Bool, true, false, ◌&&◌, Option, Some, None, refl, ap, sym, subst}
 use Rattle.std.specs.Prelude.{if◌then◌else◌, fold, nat_lt, length}
 use Rattle.std.proofs.lemmas.Bool.{true≢false}
 use Rattle.pico_base.specs.declared.call.Call.{Call}
@@ -14,7 +14,7 @@ use Rattle.pico_base.specs.declared.script.Script.{Script}
 use Rattle.number_maps.specs.Maps.{put}
 use Rattle.kernel_model.specs.Effect.{reply_alone}
 use Rattle.kernel_model.specs.Fitting.{Place, asks_again, is_killed, is_tried_again, is_waitpid, move_on, place_after, value_in}
-use Rattle.waiting_model.specs.Effect.{Effect, replying, outcome_of_effect}
+use Rattle.waiting_model.specs.Effect.{replying, outcome_of_effect}
 use Rattle.waiting_model.specs.Fitting.{Places, Progress, after_entry, after_fork, after_own, after_woken, at_place, places_after}
 use Rattle.waiting_model.specs.Kernel.{Kernel}
 use Rattle.waiting_model.specs.Marks.{Alive}
@@ -24,7 +24,7 @@ use Rattle.mq_model.specs.declared.errno.MqErrno.{MqErrno}
 use Rattle.mq_model.specs.declared.errno.MqErrno.TheVariants.{Base, Emsgsize}
 use Rattle.mq_model.specs.Fitting.{written, written_call, written_error, written_own, written_reply}
 use Rattle.mq_model.specs.Given.{is_given_call}
-use Rattle.mq_model.specs.SystemV.{refusal_of, given_call, shown_call, shown_error, shown_on_queues, shown_own, shown_plainly, shown_refused}
+use Rattle.mq_model.specs.SystemV.{refusal_of, shown_call, shown_error, shown_on_queues, shown_own, shown_plainly, shown_refused}
 use Rattle.mq_laws.proofs.Places.{steps-alike}
 
 -- ---- a reply to a call on queues

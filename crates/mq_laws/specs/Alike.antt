@@ -1,5 +1,5 @@
 -- When a kernel of System V stands for a kernel of POSIX message queues.
-use Rattle.std.specs.Prelude.{◌≡◌, ℕ, ℤ, pos, negsuc, Bool, true, false, ◌&&◌, nat_le, List, [], length, map}
+use Rattle.std.specs.Prelude.{◌≡◌, ℕ, ℤ, pos, negsuc, Bool, true, false, ◌&&◌, nat_le, [], length, map}
 use Rattle.std.specs.List.{list_all}
 use Rattle.kernel_model.specs.Queue as plain_queues
 use Rattle.kernel_model.specs.Queue.{max_queue_bytes}

@@ -1,5 +1,5 @@
 -- The history of POSIX message queues that a journal stands for is legal, and fits the given script.
-use Rattle.std.specs.Prelude.{◌≡◌, List}
+use Rattle.std.specs.Prelude.{List}
 use Rattle.pico_base.specs.declared.reply.Entry.{Entry}
 use Rattle.pico_base.specs.declared.script.Script.{Script}
 use Rattle.waiting_model.specs.History as plain

@@ -1,5 +1,5 @@
 -- The kernel of System V and the kernel of POSIX message queues for which it stands step together.
-use Rattle.std.specs.Prelude.{◌≡◌, ℕ, ℤ, pos, negsuc, Bool, true, false, not, ◌&&◌, nat_le, length, Option, Some, None, is_some}
+use Rattle.std.specs.Prelude.{◌≡◌, ℕ, negsuc, Bool, true, false, not, ◌&&◌, nat_le, length, Option, Some, None, is_some}
 use Rattle.std.specs.Ordering.{int_eq}
 use Rattle.pico_base.specs.declared.call.Call.{Call}
 use Rattle.pico_base.specs.declared.call.Call.TheVariants as calls
@@ -7,7 +7,7 @@ use Rattle.waiting_model.specs.Kernel as plain
 use Rattle.waiting_model.specs.Transition as plain_steps
 use Rattle.mq_model.specs.declared.errno.MqErrno.{MqErrno}
 use Rattle.mq_model.specs.Queue.{max_text}
-use Rattle.mq_model.specs.Calls.{MqCall, MqOutcome, Refused}
+use Rattle.mq_model.specs.Calls.{MqOutcome, Refused}
 use Rattle.mq_model.specs.Kernel.{MqKernel}
 use Rattle.mq_model.specs.Transition.{MqSuccessor, mq_transition, alone}
 use Rattle.mq_model.specs.Given.{is_given_call}
