@@ -1,3 +1,4 @@
+mod Places
 mod Trips
 mod QueueCalls
 mod OtherCalls

@@ -1,1 +1,3 @@
+pub mod Followed
 pub mod Given
+pub mod Terms

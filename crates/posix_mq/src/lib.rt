@@ -4,6 +4,7 @@
 
 mod follow;
 mod forms;
+mod progress;
 mod read;
 mod says;
 mod script;
