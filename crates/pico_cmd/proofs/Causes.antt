@@ -1,7 +1,7 @@
 -- From the status of the answer to the status that is told.
 use Rattle.std.proofs.Common.{◌≡◌, inl, inr, ◌⊎◌, List, ℕ, Option, Some, None, refl, ◌∙◌}
 use Rattle.pico_words.specs.declared.words.Request.{Request}
-use Rattle.pico_words.specs.declared.words.Request.TheVariants.{Run, Simulate, Check, Generate, Boxes, Freeze, Thaw}
+use Rattle.pico_words.specs.declared.words.Request.TheVariants.{Run, Simulate, Check, Generate, Boxes, Queues, Freeze, Thaw}
 use Rattle.pico_cmd.specs.declared.status.Status.{Status}
 use Rattle.pico_cmd.specs.declared.status.Status.TheVariants as status
 use Rattle.pico_cmd.specs.Promise.{EachCause, IsOrStops, IsWritten, OrStalled}
@@ -23,6 +23,8 @@ each_cause (Some Check) (Some bytes) P Q f h = λ s c. f s (h s c)
 each_cause (Some (Generate o)) left P Q f h = λ s c. f s (h s c)
 each_cause (Some Boxes) None P Q f h = tt
 each_cause (Some Boxes) (Some bytes) P Q f h = λ s c. or_stalled P Q f s (h s c)
+each_cause (Some (Queues steps)) None P Q f h = tt
+each_cause (Some (Queues steps)) (Some bytes) P Q f h = λ s c. or_stalled P Q f s (h s c)
 each_cause (Some (Freeze count)) None P Q f h = tt
 each_cause (Some (Freeze count)) (Some bytes) P Q f h = λ s c. f s (h s c)
 each_cause (Some Thaw) None P Q f h = tt
@@ -41,6 +43,8 @@ each_always (Some Check) (Some bytes) Q f = λ s c. f s
 each_always (Some (Generate o)) left Q f = λ s c. f s
 each_always (Some Boxes) None Q f = tt
 each_always (Some Boxes) (Some bytes) Q f = λ s c. inl (f s)
+each_always (Some (Queues steps)) None Q f = tt
+each_always (Some (Queues steps)) (Some bytes) Q f = λ s c. inl (f s)
 each_always (Some (Freeze count)) None Q f = tt
 each_always (Some (Freeze count)) (Some bytes) Q f = λ s c. f s
 each_always (Some Thaw) None Q f = tt

@@ -5,6 +5,7 @@ pub mod Ends
 pub mod Goings
 pub mod Left
 pub mod Promises
+pub mod QueueAnswers
 pub mod RunLaws
 pub mod Runs
 pub mod Sandboxes

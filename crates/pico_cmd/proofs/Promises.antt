@@ -12,7 +12,7 @@ use Rattle.pico_cmd.specs.declared.status.Status.{Status}
 use Rattle.pico_cmd.specs.declared.status.Status.TheVariants as status
 use Rattle.pico_words.specs.declared.words.Options.{Options}
 use Rattle.pico_words.specs.declared.words.Request.{Request}
-use Rattle.pico_words.specs.declared.words.Request.TheVariants.{Run, Simulate, Check, Generate, Boxes, Freeze, Thaw}
+use Rattle.pico_words.specs.declared.words.Request.TheVariants.{Run, Simulate, Check, Generate, Boxes, Queues, Freeze, Thaw}
 use Rattle.pico_cmd.specs.declared.program.Stop.{Stop}
 use Rattle.pico_cmd.specs.declared.program.Stop.TheVariants.{Memory, ReadFault}
 use Rattle.pico_cmd.specs.Stop.{AreBytesUpTo, IsReadFault, left_behind, most_read}
@@ -165,6 +165,7 @@ none_cut (Some (Simulate o)) left text rested a = a.answers.0
 none_cut (Some Check) left text rested a = a.answers.0.judges
 none_cut (Some (Generate o)) left text rested a = a.answers
 none_cut (Some Boxes) left text rested a = a.answers
+none_cut (Some (Queues steps)) left text rested a = a.answers
 none_cut (Some (Freeze count)) left text rested a = a.answers.0
 none_cut (Some Thaw) left text rested a = a.answers.0
 
@@ -177,6 +178,7 @@ none_memory (Some (Simulate o)) left text rested a = a.answers.0
 none_memory (Some Check) left text rested a = a.answers.0.judges
 none_memory (Some (Generate o)) left text rested a = a.answers
 none_memory (Some Boxes) left text rested a = a.answers
+none_memory (Some (Queues steps)) left text rested a = a.answers
 none_memory (Some (Freeze count)) left text rested a = a.answers.0
 none_memory (Some Thaw) left text rested a = a.answers.0
 
@@ -189,6 +191,7 @@ none_read_fault (Some (Simulate o)) left text rested a = a.answers.0
 none_read_fault (Some Check) left text rested a = a.answers.0.judges
 none_read_fault (Some (Generate o)) left text rested a = a.answers
 none_read_fault (Some Boxes) left text rested a = a.answers
+none_read_fault (Some (Queues steps)) left text rested a = a.answers
 none_read_fault (Some (Freeze count)) left text rested a = a.answers.0
 none_read_fault (Some Thaw) left text rested a = a.answers.0
 

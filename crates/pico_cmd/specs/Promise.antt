@@ -209,7 +209,7 @@ RunsQueues steps bytes _ text rested = ⊥
 -- ---- each mode
 
 -- What goes with a status for what is asked for and the bytes that the source had, with the outcomes of the runs with
--- threads that are handed back: of `run`, `gen` and `boxes` alone. `check` rests on as many bytes as it reads.
+-- threads that are handed back: of `run`, `gen`, `mq` and `boxes` alone. `check` rests on as many bytes as it reads.
 abbrev pub Answers : Request → List ℕ → Status → List ℕ → List Rested → Type 0
 Answers (Run steps) bytes s text rested = RunsThreads steps bytes s text rested
 Answers (Simulate options) bytes s text rested = Simulates options bytes s text × (rested ≡ [])

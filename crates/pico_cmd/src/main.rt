@@ -4,6 +4,7 @@
 
 mod answer;
 mod boxed;
+mod copied;
 mod frozen;
 mod judged;
 mod laws;

@@ -33,7 +33,7 @@ const MAX_IMAGE: usize = 16777216;
 const MAX_CHECKED: usize = 68161537;
 
 /// What a run of the program leaves: how it ended, and the outcomes of the runs with threads that stand behind what was
-/// written. There is one with `run` and `gen`, and one for each sandbox with `boxes`, where the status is Done or
+/// written. There is one with `run`, `gen` and `mq`, and one for each sandbox with `boxes`, where the status is Done or
 /// Stalled, or a WriteFault in its place; else there is none.
 #[derive(Drop)]
 pub struct Ran {
@@ -340,6 +340,9 @@ fn write_answer<K: Sink>(sink: &mut K, answer: Answer) -> Ran
 ///   number of its entries, or what its first fault is.
 /// - `gen`, with the same options as `sim`: the generated script of number N runs with threads, as in `run`. The totals
 ///   line of its trace is written, and with `--steps` the events behind it. Nothing is read.
+/// - `mq`, with `--steps` if wanted: the source is a script of POSIX message queues. The script of System V that runs
+///   it does so with threads, as in `run`. The trace of the history of POSIX message queues that its journal stands for
+///   is written, and with `--steps` the events behind it.
 /// - `boxes`: the source is up to 8 sandboxes, each a script of its own. All run at once with threads, as in `run`, and
 ///   the gate counts their nodes in order. For each its name and its trace are written.
 /// - `freeze`, with `--seed N` if wanted: the source is a script. It runs as in `sim` by schedule 0, for N events or to
@@ -350,8 +353,8 @@ fn write_answer<K: Sink>(sink: &mut K, answer: Answer) -> Ran
 /// Where processes of a script wait for good, the run comes to rest all the same: then all is written as else, and the
 /// status is Stalled. No process of a generated script waits.
 ///
-/// What `run`, `gen` and `boxes` come to is handed back, too: the journal, the events, the world at rest, and what each
-/// thread left.
+/// What `run`, `gen`, `mq` and `boxes` come to is handed back, too: the journal, the events, the world at rest, and
+/// what each thread left.
 pub fn pico<R: Threads + Wait + Sync, S: Source, K: Sink, G: Gate>(
     rt: &R,
     alloc: Global,
@@ -361,10 +364,10 @@ pub fn pico<R: Threads + Wait + Sync, S: Source, K: Sink, G: Gate>(
     gate: &G,
 ) -> Ran
     // What is written with each status: the trace of a run of the script's processes, which is one history of a single
-    // POSIX kernel, or that a trace is legal, or the totals of a generated script's run, or such a trace for each of
-    // several sandboxes, or an image, or the trace of the run that an image begins; the first fault of the script, of
-    // the sandboxes, of the trace or of the image; or the usage line. Nothing is written where memory or the source
-    // failed.
+    // POSIX kernel, with message queues of System V or, in `mq`, of POSIX; or that a trace is legal, or the totals of a
+    // generated script's run, or such a trace for each of several sandboxes, or an image, or the trace of the run that
+    // an image begins; the first fault of the script, of the sandboxes, of the trace or of the image; or the usage
+    // line. Nothing is written where memory or the source failed.
     ensures done { result.status ≡ Status.Done →
         Wrote (request_in (map string_bytes words.now)) (S.left source.old) Status.Done
         result.rested (K.taken sink.old) (K.taken sink.new) }

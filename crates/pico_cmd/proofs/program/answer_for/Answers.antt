@@ -45,3 +45,9 @@ returns-in-Thaw-clause-read g c = rw c.in-Thaw.is (read_told c.thaw_image.result
 
 pub returns-in-Thaw-clause-untouched : goal.returns-in-Thaw-clause-untouched
 returns-in-Thaw-clause-untouched g c unread = absurd (unread (rw c.in-Thaw.is tt))
+
+pub returns-in-Queues-clause-read : goal.returns-in-Queues-clause-read
+returns-in-Queues-clause-read g c = rw c.in-Queues.is (read_told c.run_queues.result)
+
+pub returns-in-Queues-clause-untouched : goal.returns-in-Queues-clause-untouched
+returns-in-Queues-clause-untouched g c unread = absurd (unread (rw c.in-Queues.is tt))
