@@ -158,7 +158,7 @@ def gate_of(drawn: random.Random, nodes: int) -> list[str]:
     if kind < 0.8 or nodes < 2:
         return ["random", str(drawn.randrange(2**63))]
     if kind < 0.95:
-        return ["each", str(nodes), str(drawn.choice((1, 3, 20, 200, 2000)))]
+        return ["each", str(nodes), str(drawn.choice((3, 100, 1000)))]
     one, other = drawn.sample(range(1, nodes + 1), 2)
     return ["hold", str(one), "until", str(other), str(drawn.choice((1, 100, 10000, 100000)))]
 

@@ -69,9 +69,12 @@ fn held_after(passed: u64, nodes: u64, passes: u64) -> Option<u64> {
         .checked_add(1)
 }
 
-/// Lets the others on so many times.
-fn look_on(looks: u64) {
-    for _ in 0..looks {
+/// Lets the others on at each so many looks.
+const SOME: u64 = 64;
+
+/// Lets the others on behind some looks: there may be more of them than processors.
+fn let_on_at_times(look: u64) {
+    if look % SOME == SOME - 1 {
         thread::yield_now();
     }
 }
@@ -91,25 +94,33 @@ impl Holding {
         self.gave_up.load(Ordering::SeqCst) > 0
     }
 
+    /// Looks so many times.
+    fn look_on(&self, looks: u64) {
+        for look in 0..looks {
+            let _ = self.passed.load(Ordering::SeqCst);
+            let_on_at_times(look);
+        }
+    }
+
     /// Waits until so many turns passed.
     fn wait_for(&self, turns: u64) {
-        for _ in 0..LOOKS {
+        for look in 0..LOOKS {
             if self.passed.load(Ordering::SeqCst) >= turns {
                 return;
             }
-            thread::yield_now();
+            let_on_at_times(look);
         }
         self.gave_up.fetch_add(1, Ordering::SeqCst);
     }
 
     /// Holds a node while it is its time. Its looks count as turns, so that its time ends where it is alone.
     fn wait_in_turn(&self, node: Node, nodes: u64, passes: u64) {
-        for _ in 0..LOOKS {
+        for look in 0..LOOKS {
             let passed = self.passed.fetch_add(1, Ordering::SeqCst);
             if held_after(passed, nodes, passes) != Some(u64::from(node.0)) {
                 return;
             }
-            thread::yield_now();
+            let_on_at_times(look);
         }
         self.gave_up.fetch_add(1, Ordering::SeqCst);
     }
@@ -132,13 +143,13 @@ impl Gate for Holding {
                 }
             }
             Plan::Each { nodes, passes } => self.wait_in_turn(node, nodes, passes),
-            Plan::Random { seed } => look_on(looks_before(seed, node, turn)),
+            Plan::Random { seed } => self.look_on(looks_before(seed, node, turn)),
         }
     }
 
     fn did(&self, node: Node, event: u64) {
         if let Plan::Random { seed } = self.plan {
-            look_on(looks_behind(seed, node, event));
+            self.look_on(looks_behind(seed, node, event));
         }
     }
 }

@@ -1,5 +1,5 @@
-//! Each kind of body, with callers that wait where there may be some, at its edges: cut at each byte, with a byte behind
-//! its last field, with each of its flags 2, and under a name of another kind.
+//! Each kind of body at its edges, also with callers that wait: cut at each byte, with a byte behind its last field,
+//! with each of its flags 2, and under a name of another kind.
 ghost use Rattle.std.specs.Prelude.{◌≤◌, length};
 
 use deed_box::Shared;
@@ -25,7 +25,8 @@ static BODIES: [Row; 9] = [
     (
         "a living process",
         PROCESS,
-        b"\x01\0\0\0\0\x02\x01\0\0\0\0\0 \0\x10\0\0\0\0\0\0\0\0\0\0\0\0\0\0\0\0\0\0\0\x03\0\0\0\0\0\0\0\0\0\0\0\0\0\0\0\0\0\0\0\0\x09\x02\0\0\0\x03\0\0\0\x09\x02\0\0\0\x04\0\x07\0\0\0\x05\x01\x09",
+        b"\x01\0\0\0\0\x02\x01\0\0\0\0\0 \0\x10\0\0\0\0\0\0\0\0\0\0\0\0\0\0\0\0\0\0\0\x03\0\0\0\0\0\0\0\0\0\0\
+\0\0\0\0\0\0\0\0\0\0\x09\x02\0\0\0\x03\0\0\0\x09\x02\0\0\0\x04\0\x07\0\0\0\x05\x01\x09",
         &[],
     ),
     ("an ended process", PROCESS, b"\x02\0\x07", &[]),
@@ -35,13 +36,15 @@ static BODIES: [Row; 9] = [
     (
         "a queue where two wait",
         QUEUE,
-        b"\x04\0\0\0\x04\0\0\0\x02\0\0\0\0\0\x01\0\0\0\x01\0\0\0\x03abc\x02\x03\0\0\0\x04\0\0\0\x03\x04\0\0\0\x01\0\0\0\x05\0\0\0\x08\0\0\x04\0\0\0\x02\0\0\0\x04\x03\0\0\0\x01\0\0\0\x01\0\0\0\x02hi\0",
+        b"\x04\0\0\0\x04\0\0\0\x02\0\0\0\0\0\x01\0\0\0\x01\0\0\0\x03abc\x02\x03\0\0\0\x04\0\0\0\x03\x04\0\0\0\
+\x01\0\0\0\x05\0\0\0\x08\0\0\x04\0\0\0\x02\0\0\0\x04\x03\0\0\0\x01\0\0\0\x01\0\0\0\x02hi\0",
         &[49, 50, 75],
     ),
     (
         "a set where two wait",
         SET,
-        b"\x05\x02\0\0\0\0\0\0\0\x01\0\0\0\x02\x02\x03\0\0\0\x04\0\0\0\x03\x09\0\0\0\x01\0\x01\0\0\xff\xff\xff\xff\0\x05\0\0\0\x01\0\0\0\x06\x09\0\0\0\x01\0\x02\0\x01\0\0\0\0\0\0\0\0\0\0\x01\x01",
+        b"\x05\x02\0\0\0\0\0\0\0\x01\0\0\0\x02\x02\x03\0\0\0\x04\0\0\0\x03\x09\0\0\0\x01\0\x01\0\0\xff\xff\xff\
+\xff\0\x05\0\0\0\x01\0\0\0\x06\x09\0\0\0\x01\0\x02\0\x01\0\0\0\0\0\0\0\0\0\0\x01\x01",
         &[37, 60, 67],
     ),
     ("a removed queue", QUEUE, b"\x06", &[]),
