@@ -6,7 +6,10 @@ mod OnQueues
 mod Queues
 mod Together
 mod Places
+mod GivenCalls
 mod Due
 mod GivenPlaces
 mod Written
-mod Histories
+mod Found
+mod Legal
+mod Fits

@@ -21,63 +21,49 @@ use Rattle.mq_model.specs.SystemV.{refusal_of, carried_out, system_v_call, syste
 
 -- ---- calls
 
--- a call that waits for children, or ends the process, is itself
+-- what doesn't tell a look at the pending signals from a call doesn't tell what stands in its place
+if-same : {A : Type 0} (f : Call → A) (b : Bool) (call : Call) → f calls.SigPending ≡ f call
+    → f (if b then calls.SigPending else call) ≡ f call
+if-same f true call h = h
+if-same f false call h = refl
 
 same-waitpid : (call : Call) → is_waitpid (system_v_call call) ≡ is_waitpid call
-same-waitpid (calls.MsgSnd id class text nowait) = by_refusal (is_some (refusal_of (calls.MsgSnd id class text nowait)))
-  where
-    by_refusal : (b : Bool)
-        → is_waitpid (if b then calls.SigPending else carried_out (calls.MsgSnd id class text nowait)) ≡ false
-    by_refusal true = refl
-    by_refusal false = refl
+same-waitpid (calls.MsgSnd id class text nowait) =
+    if-same is_waitpid (is_some (refusal_of (calls.MsgSnd id class text nowait)))
+    (carried_out (calls.MsgSnd id class text nowait)) refl
 same-waitpid (calls.MsgRcv id class size noerror nowait) =
-    by_refusal (is_some (refusal_of (calls.MsgRcv id class size noerror nowait)))
-  where
-    by_refusal : (b : Bool)
-        → is_waitpid (if b then calls.SigPending else carried_out (calls.MsgRcv id class size noerror nowait)) ≡ false
-    by_refusal true = refl
-    by_refusal false = refl
+    if-same is_waitpid (is_some (refusal_of (calls.MsgRcv id class size noerror nowait)))
+    (carried_out (calls.MsgRcv id class size noerror nowait)) refl
 same-waitpid call = refl
 
 same-exit : (call : Call) → is_exit (system_v_call call) ≡ is_exit call
-same-exit (calls.MsgSnd id class text nowait) = by_refusal (is_some (refusal_of (calls.MsgSnd id class text nowait)))
-  where
-    by_refusal : (b : Bool)
-        → is_exit (if b then calls.SigPending else carried_out (calls.MsgSnd id class text nowait)) ≡ false
-    by_refusal true = refl
-    by_refusal false = refl
+same-exit (calls.MsgSnd id class text nowait) =
+    if-same is_exit (is_some (refusal_of (calls.MsgSnd id class text nowait)))
+    (carried_out (calls.MsgSnd id class text nowait)) refl
 same-exit (calls.MsgRcv id class size noerror nowait) =
-    by_refusal (is_some (refusal_of (calls.MsgRcv id class size noerror nowait)))
-  where
-    by_refusal : (b : Bool)
-        → is_exit (if b then calls.SigPending else carried_out (calls.MsgRcv id class size noerror nowait)) ≡ false
-    by_refusal true = refl
-    by_refusal false = refl
+    if-same is_exit (is_some (refusal_of (calls.MsgRcv id class size noerror nowait)))
+    (carried_out (calls.MsgRcv id class size noerror nowait)) refl
 same-exit call = refl
 
 -- a variable stands for the same number
-abbrev from_if : Bool → Option ℕ → Option ℕ
-from_if b from = if b then None else from
-
-named-send : (id n : ℕ) (vars : Vars) (from : Option ℕ) (b : Bool) (call other : Call)
-    → call_from other vars from ≡ call
+named : (vars : Vars) (from : Option ℕ) (b : Bool) (call other : Call) → call_from other vars from ≡ call
     → call_from (if b then calls.SigPending else other) vars (if b then None else from)
     ≡ (if b then calls.SigPending else call)
-named-send id n vars from true call other h = refl
-named-send id n vars from false call other h = h
+named vars from true call other h = refl
+named vars from false call other h = h
 
 by-line : (call : Call) (vars : Vars) (from : Option ℕ)
     → call_from (system_v_call call) vars (if is_some (refusal_of call) then None else from)
     ≡ system_v_call (call_from call vars from)
 by-line (calls.MsgSnd id class text nowait) vars None =
-    named-send id 0 vars None (is_some (refusal_of (calls.MsgSnd id class text nowait))) _ _ refl
+    named vars None (is_some (refusal_of (calls.MsgSnd id class text nowait))) _ _ refl
 by-line (calls.MsgSnd id class text nowait) vars (Some v) =
-    named-send id 0 vars (Some v) (is_some (refusal_of (calls.MsgSnd id class text nowait))) _
+    named vars (Some v) (is_some (refusal_of (calls.MsgSnd id class text nowait))) _
     (carried_out (calls.MsgSnd id class text nowait)) refl
 by-line (calls.MsgRcv id class size noerror nowait) vars None =
-    named-send id 0 vars None (is_some (refusal_of (calls.MsgRcv id class size noerror nowait))) _ _ refl
+    named vars None (is_some (refusal_of (calls.MsgRcv id class size noerror nowait))) _ _ refl
 by-line (calls.MsgRcv id class size noerror nowait) vars (Some v) =
-    named-send id 0 vars (Some v) (is_some (refusal_of (calls.MsgRcv id class size noerror nowait))) _
+    named vars (Some v) (is_some (refusal_of (calls.MsgRcv id class size noerror nowait))) _
     (carried_out (calls.MsgRcv id class size noerror nowait)) refl
 by-line (calls.WaitPid (Some child) nohang) vars (Some v) = refl
 by-line (calls.WaitPid None nohang) vars (Some v) = refl

@@ -1,3 +1,4 @@
 pub mod Alike
 pub mod Together
 pub mod Histories
+pub mod Examples

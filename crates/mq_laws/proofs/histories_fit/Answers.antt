@@ -1,4 +1,4 @@
-use Rattle.mq_laws.proofs.Histories.{histories-fit}
+use Rattle.mq_laws.proofs.Fits.{histories-fit}
 use Rattle.mq_laws.proofs.histories_fit.Goals as goal
 
 pub returns : goal.returns

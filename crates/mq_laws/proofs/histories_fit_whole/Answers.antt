@@ -1,4 +1,4 @@
-use Rattle.mq_laws.proofs.Histories.{histories-fit-whole}
+use Rattle.mq_laws.proofs.Fits.{histories-fit-whole}
 use Rattle.mq_laws.proofs.histories_fit_whole.Goals as goal
 
 pub returns : goal.returns
