@@ -1,29 +1,23 @@
 -- What an entry of the journal stands for, by the call of the given script that is due.
-use Rattle.std.proofs.Common.{◌≡◌, ◌∙◌, ℕ, ◌≤◌, pos, negsuc, Bool, true, false, not, ◌&&◌, List, [], ◌∷◌, length, Option, Some, None, is_some, refl, ap, sym, subst, inl, inr, arith, le-leb, ltb-false}
-use Rattle.std.specs.Prelude.{if◌then◌else◌, nat_lt, nat_le}
+use Rattle.std.proofs.Common.{◌≡◌, ◌∙◌, ℕ, Bool, true, false, List, [], ◌∷◌, Option, Some, None, is_some, refl, ap, sym, subst, inl, inr}
+use Rattle.std.specs.Prelude.{if◌then◌else◌}
 use Rattle.std.specs.List.{list_all}
 use Rattle.std.specs.Option.{option_map}
-use Rattle.std.specs.Ordering.{int_eq}
-use Rattle.std.proofs.lemmas.Bool.{true≢false, and_parts, and_from}
-use Rattle.std.proofs.lemmas.Bool.Decides.{Decides-int_eq}
+use Rattle.std.proofs.lemmas.Bool.{true≢false, and_parts}
 use Rattle.pico_base.specs.declared.call.Call.{Call}
 use Rattle.pico_base.specs.declared.call.Call.TheVariants as calls
 use Rattle.pico_base.specs.declared.reply.Entry.{Entry}
 use Rattle.pico_base.specs.declared.reply.Outcome.{Outcome}
-use Rattle.kernel_model.specs.Numbers.{is_u16}
-use Rattle.kernel_model.specs.Script.{Vars, call_from, call_of}
+use Rattle.kernel_model.specs.Script.{Vars, call_of}
 use Rattle.kernel_model.specs.Fitting.{Place, IsDue, due, is_killed}
 use Rattle.waiting_model.specs.Calls.{withdrawn_from}
 use Rattle.waiting_model.specs.Fitting.{Progress, IsNext}
 use Rattle.pico_base.specs.declared.script.Line.{Line}
-use Rattle.pico_base.specs.declared.reply.Errno.TheVariants.{Einval}
 use Rattle.mq_model.specs.declared.errno.MqErrno.{MqErrno}
-use Rattle.mq_model.specs.declared.errno.MqErrno.TheVariants.{Base, Emsgsize}
-use Rattle.mq_model.specs.Calls.{Send}
 use Rattle.mq_model.specs.Fitting.{written_call}
 use Rattle.mq_model.specs.Given.{is_given_call, is_given_line}
 use Rattle.mq_model.specs.Shown.{stands_for, shown_at}
-use Rattle.mq_model.specs.SystemV.{refusal_of, refusal_of_send, carried_out, system_v_call, given_call, shown_call, shown, shown_by, shown_plainly, shown_refused, turned}
+use Rattle.mq_model.specs.SystemV.{refusal_of, carried_out, system_v_call, shown_call, shown, shown_by, shown_plainly, shown_refused}
 use Rattle.mq_laws.specs.Together.{is_carried_out}
 use Rattle.mq_laws.proofs.GivenCalls.{written-again, carried, shown-given, no-withdrawal, given-from}
 use Rattle.mq_laws.proofs.Places.{system_v_place, system_v_progress, same-due}

@@ -1,41 +1,16 @@
 -- Where a journal that fits the script of System V is in the given script.
-use Rattle.std.proofs.Common.{◌≡◌, ◌∙◌, ℕ, List, [], ◌∷◌, map, Option, Some, None, refl, ap, sym, subst, inl, inr}
-use Rattle.std.specs.List.{AllByRecursion}
+use Rattle.std.proofs.Common.{◌≡◌, ◌∙◌, ℕ, List, ◌∷◌, Option, Some, None, refl, sym, subst}
 use Rattle.std.specs.Option.{option_map}
-use Rattle.pico_base.specs.declared.call.Call.{Call}
-use Rattle.pico_base.specs.declared.call.Call.TheVariants as calls
 use Rattle.pico_base.specs.declared.reply.Entry.{Entry}
-use Rattle.pico_base.specs.declared.reply.Reply.{Reply}
-use Rattle.pico_base.specs.declared.reply.Reply.TheVariants as replies
-use Rattle.pico_base.specs.declared.script.Line.{Line}
 use Rattle.pico_base.specs.declared.script.Script.{Script}
-use Rattle.std.specs.Prelude.{pos, negsuc}
 use Rattle.number_maps.specs.Maps.{get}
-use Rattle.kernel_model.specs.History.{number_in}
-use Rattle.waiting_model.specs.Kernel as plain
-use Rattle.waiting_model.specs.History as plain_history
-use Rattle.waiting_model.specs.Transition.{Successor, successor, transition}
-use Rattle.waiting_model.specs.Fitting.{FitsFrom, IsNext, IsOver, Places, Progress, opening_places, places_after}
+use Rattle.waiting_model.specs.Fitting.{FitsFrom, IsNext, Places, Progress, places_after}
 use Rattle.waiting_laws.proofs.Maps.{get-each, all-get}
-use Rattle.waiting_laws.proofs.ParkWaits.{opening-sound}
-use Rattle.mq_model.specs.Calls.{MqCall, MqEntry, MqOutcome, Open, Send, Receive, GetAttr, Other, Plain, Refused}
-use Rattle.mq_model.specs.Kernel.{MqKernel, opening}
-use Rattle.mq_model.specs.History as mq
-use Rattle.mq_model.specs.History.{IsLegal, Replays}
-use Rattle.mq_model.specs.Fitting.{written}
 use Rattle.mq_model.specs.Given.{IsGiven}
-use Rattle.mq_model.specs.Shown.{history_from, history_of, places_behind, shown_at}
-use Rattle.mq_model.specs.SystemV.{given_call, shown_call, shown_on_queues, shown_outcome, shown_own, system_v, system_v_line}
-use Rattle.mq_model.specs.Transition as mq_steps
-use Rattle.mq_model.specs.Transition.{MqSuccessor, alone, mq_transition}
-use Rattle.mq_laws.specs.Alike.{Alike}
-use Rattle.mq_laws.specs.Together.{LeadAlike, LeadsAlike}
-use Rattle.mq_laws.specs.Histories.{HistoriesAreLegal, HistoriesFit, HistoriesFitWhole}
-use Rattle.mq_laws.proofs.Due.{Stands, Plainly, Refused as RefusedBy, stands}
-use Rattle.mq_laws.proofs.GivenPlaces.{AreGiven, IsGivenProgress, given-places, opening-given}
-use Rattle.mq_laws.proofs.Places.{system_v_progress, system_v_places, same-opening, same-places}
-use Rattle.mq_laws.proofs.Together.{calls-together, refusals-together}
-use Rattle.mq_laws.proofs.Written.{looks-pending, plainly-same, refused-same}
+use Rattle.mq_model.specs.SystemV.{system_v}
+use Rattle.mq_laws.proofs.Due.{Stands, stands}
+use Rattle.mq_laws.proofs.GivenPlaces.{AreGiven, IsGivenProgress, given-places}
+use Rattle.mq_laws.proofs.Places.{system_v_progress, system_v_places, same-places}
 
 -- where the process is in the given script
 pub record Found (places : Places) (pid : ℕ) (q : Progress) : Type 0 where
@@ -73,5 +48,7 @@ module _ (given : Script) (is_given : IsGiven given) (places : Places) (all : Ar
   pub rest-fits : FitsFrom (system_v given) (system_v_places (places_after given places e at-place.place)) es to
   rest-fits =
       subst (λ (x : Places). FitsFrom (system_v given) x es to) (same-places given places e at-place.place)
-      (subst (λ (q : Progress). FitsFrom (system_v given) (places_after (system_v given) (system_v_places places) e q) es to)
+      (subst
+      (λ (q : Progress).
+      FitsFrom (system_v given) (places_after (system_v given) (system_v_places places) e q) es to)
       (sym at-place.is) f.rest)

@@ -1,5 +1,5 @@
 -- The calls of a given script, beside those that are carried out in their place.
-use Rattle.std.proofs.Common.{◌≡◌, ◌∙◌, ℕ, ◌≤◌, pos, negsuc, Bool, true, false, not, ◌&&◌, List, length, Option, Some, None, is_some, refl, ap, sym, arith, le-leb, ltb-false}
+use Rattle.std.proofs.Common.{◌≡◌, ℕ, ◌≤◌, pos, negsuc, Bool, true, false, not, ◌&&◌, List, length, Option, Some, None, refl, ap, sym, arith, le-leb, ltb-false}
 use Rattle.std.specs.Prelude.{if◌then◌else◌, nat_lt, nat_le}
 use Rattle.std.specs.Ordering.{int_eq}
 use Rattle.std.proofs.lemmas.Bool.{true≢false, and_parts, and_from}

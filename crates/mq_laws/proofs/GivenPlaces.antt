@@ -86,13 +86,15 @@ given-exit : (b : Bool) (line : Line) (lines : List Line) → is_given_line line
 given-exit true line lines h g = and_from (is_given_line line) true h refl
 given-exit false line lines h g = and_from (is_given_line line) (list_all is_given_line lines) h g
 
-given-lines : (lines : List Line) → list_all is_given_line lines ≡ true → list_all is_given_line (with_exit lines) ≡ true
+given-lines : (lines : List Line) → list_all is_given_line lines ≡ true
+    → list_all is_given_line (with_exit lines) ≡ true
 given-lines [] h = refl
 given-lines (line ∷ lines) h =
     let parts = and_parts (is_given_line line) (list_all is_given_line lines) h
     in given-exit (is_exit line.call) line (with_exit lines) parts.0 (given-lines lines parts.1)
 
-given-block : (given : Script) → IsGiven given → (i : ℕ) (o : Option Block) → slice_get given.blocks i ≡ o → (vars : Vars)
+given-block : (given : Script) → IsGiven given → (i : ℕ) (o : Option Block) → slice_get given.blocks i ≡ o
+    → (vars : Vars)
     → is_given_place (block_place o vars) ≡ true
 given-block given is i None at vars = refl
 given-block given is i (Some block) at vars =

@@ -1,41 +1,34 @@
 -- The history that a journal stands for is legal, entry by entry.
-use Rattle.std.proofs.Common.{◌≡◌, ◌∙◌, ℕ, List, [], ◌∷◌, map, Option, Some, None, refl, ap, sym, subst, inl, inr}
-use Rattle.std.specs.List.{AllByRecursion}
-use Rattle.std.specs.Option.{option_map}
+use Rattle.std.proofs.Common.{◌≡◌, ◌∙◌, ℕ, List, [], ◌∷◌, Option, Some, None, refl, ap, sym, subst}
 use Rattle.pico_base.specs.declared.call.Call.{Call}
 use Rattle.pico_base.specs.declared.call.Call.TheVariants as calls
 use Rattle.pico_base.specs.declared.reply.Entry.{Entry}
 use Rattle.pico_base.specs.declared.reply.Reply.{Reply}
 use Rattle.pico_base.specs.declared.reply.Reply.TheVariants as replies
-use Rattle.pico_base.specs.declared.script.Line.{Line}
 use Rattle.pico_base.specs.declared.script.Script.{Script}
 use Rattle.std.specs.Prelude.{pos, negsuc}
-use Rattle.number_maps.specs.Maps.{get}
 use Rattle.kernel_model.specs.History.{number_in}
 use Rattle.waiting_model.specs.Kernel as plain
 use Rattle.waiting_model.specs.History as plain_history
 use Rattle.waiting_model.specs.Transition.{Successor, successor, transition}
-use Rattle.waiting_model.specs.Fitting.{FitsFrom, IsNext, IsOver, Places, Progress, opening_places, places_after}
-use Rattle.waiting_laws.proofs.Maps.{get-each, all-get}
+use Rattle.waiting_model.specs.Fitting.{FitsFrom, Places, Progress, opening_places, places_after}
 use Rattle.waiting_laws.proofs.ParkWaits.{opening-sound}
 use Rattle.mq_model.specs.Calls.{MqCall, MqEntry, MqOutcome, Open, Send, Receive, GetAttr, Other, Plain, Refused}
 use Rattle.mq_model.specs.Kernel.{MqKernel, opening}
 use Rattle.mq_model.specs.History as mq
 use Rattle.mq_model.specs.History.{IsLegal, Replays}
-use Rattle.mq_model.specs.Fitting.{written}
 use Rattle.mq_model.specs.Given.{IsGiven}
 use Rattle.mq_model.specs.Shown.{history_from, history_of, places_behind, shown_at}
-use Rattle.mq_model.specs.SystemV.{given_call, shown_call, shown_on_queues, shown_outcome, shown_own, system_v, system_v_line}
+use Rattle.mq_model.specs.SystemV.{given_call, shown_call, shown_on_queues, shown_outcome, shown_own, system_v}
 use Rattle.mq_model.specs.Transition as mq_steps
 use Rattle.mq_model.specs.Transition.{MqSuccessor, alone, mq_transition}
 use Rattle.mq_laws.specs.Alike.{Alike}
 use Rattle.mq_laws.specs.Together.{LeadAlike, LeadsAlike}
-use Rattle.mq_laws.specs.Histories.{HistoriesAreLegal, HistoriesFit, HistoriesFitWhole}
-use Rattle.mq_laws.proofs.Due.{Stands, Plainly, Refused as RefusedBy, stands}
-use Rattle.mq_laws.proofs.GivenPlaces.{AreGiven, IsGivenProgress, given-places, opening-given}
-use Rattle.mq_laws.proofs.Places.{system_v_progress, system_v_places, same-opening, same-places}
+use Rattle.mq_laws.specs.Histories.{HistoriesAreLegal}
+use Rattle.mq_laws.proofs.Due.{Stands, Plainly, Refused as RefusedBy}
+use Rattle.mq_laws.proofs.GivenPlaces.{AreGiven, opening-given}
+use Rattle.mq_laws.proofs.Places.{system_v_places, same-opening}
 use Rattle.mq_laws.proofs.Together.{calls-together, refusals-together}
-use Rattle.mq_laws.proofs.Written.{looks-pending, plainly-same, refused-same}
 use Rattle.mq_laws.proofs.Found.{Found, at-place, stands-here, rest-given, rest-fits}
 
 -- ---- the number that an entry may have created

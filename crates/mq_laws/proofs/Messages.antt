@@ -220,7 +220,8 @@ all-dropped test (suc n) (x ∷ xs) h = all-dropped test n xs (and_parts (test x
 
 pub all-removed : {A : Type 0} (test : A → Bool) (xs : List A) (i : ℕ) → list_all test xs ≡ true
     → list_all test (remove xs i) ≡ true
-all-removed test xs i h = all-and test (take i xs) (drop (suc i) xs) (all-taken test i xs h) (all-dropped test (suc i) xs h)
+all-removed test xs i h =
+    all-and test (take i xs) (drop (suc i) xs) (all-taken test i xs h) (all-dropped test (suc i) xs h)
 
 pub all-there : {A : Type 0} (test : A → Bool) (xs : List A) (i : ℕ) (x : A) → list_all test xs ≡ true
     → slice_get xs i ≡ Some x → test x ≡ true

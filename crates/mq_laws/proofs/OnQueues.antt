@@ -144,7 +144,8 @@ module _ (k : Kernel) (rising : IsRising k.processes) (pid : ℕ) (shown : MqCal
 module _ (k : Kernel) (stand : AllValues StandsForQueue k.queues) (rising : IsRising k.queues) (id : ℕ)
     (shown : MqCall) (on : (reply : Reply) → shown_reply shown reply ≡ shown_on_queues reply) where
   -- a call that leaves the kernel as it is
-  pub stays : (reply : Reply) → ComesTo k shown (replying k reply) (mq.replying (shown_kernel k) (shown_on_queues reply))
+  pub stays : (reply : Reply)
+      → ComesTo k shown (replying k reply) (mq.replying (shown_kernel k) (shown_on_queues reply))
   stays reply =
       record {
         kernel = k;
@@ -155,7 +156,8 @@ module _ (k : Kernel) (stand : AllValues StandsForQueue k.queues) (rising : IsRi
         queues = stand;
       }
 
-  carried : (who : Waiting) (state : plain_queues.Queue) (ws : List Waiting) → ws ≡ [] → (t : Attempt plain_queues.Queue)
+  carried : (who : Waiting) (state : plain_queues.Queue) (ws : List Waiting) → ws ≡ []
+      → (t : Attempt plain_queues.Queue)
       → try_queue state who.pid who.call ≡ Some t
       → queue_effect k id (carry_out_on_queue (awaited state ws) who)
       ≡ replying (with_queue k id (unawaited t.state)) t.reply

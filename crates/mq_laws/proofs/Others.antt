@@ -111,7 +111,8 @@ module _ (k : Kernel) where
   if-refused false e f g h = ap Some h
 
   found-with : (b : Bool) (e : Errno) (id : ℕ)
-      → (if b then reply_with k id else refuse k e) ≡ effect_with k (if b then reply_with (bare k) id else refuse (bare k) e)
+      → (if b then reply_with k id else refuse k e)
+      ≡ effect_with k (if b then reply_with (bare k) id else refuse (bare k) e)
   found-with true e id = refl
   found-with false e id = refl
 
@@ -219,7 +220,8 @@ module _ (k : Kernel) where
     withdrawn-with pid name true =
         ap
         (λ (j : Kernel).
-        Some (successor (record j { processes = change_living j.processes pid after_reply }) (reply_alone (Fail Eintr))))
+        Some
+        (successor (record j { processes = change_living j.processes pid after_reply }) (reply_alone (Fail Eintr))))
         (left-with pid name)
     withdrawn-with pid name false = refl
 

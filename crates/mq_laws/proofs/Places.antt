@@ -190,7 +190,8 @@ woken-if : (b : Bool) (p : Progress) (q r : Place) → q ≡ system_v_place r
 woken-if true p q r h = ap at_place h
 woken-if false p q r h = refl
 
-same-wake : (reply : Reply) (p : Progress) → after_wake reply (system_v_progress p) ≡ system_v_progress (after_wake reply p)
+same-wake : (reply : Reply) (p : Progress)
+    → after_wake reply (system_v_progress p) ≡ system_v_progress (after_wake reply p)
 same-wake reply p =
     woken-if p.parked p _ (answered p.place (due p.place) reply)
     (ap (λ (o : Option Call). answered (system_v_place p.place) o reply) (same-due p.place)
@@ -215,7 +216,9 @@ same-fork : (given : Script) (places : Places) (parent : Place) (call : Call) (o
     → after_fork (system_v given) (system_v_places places) (system_v_place parent) call own
     ≡ system_v_places (after_fork given places parent call own)
 same-fork given places parent (calls.Fork block) (Some (replies.Num child)) =
-    ap (λ (vars : Vars). put (system_v_places places) child (at_place (block_place (block_at (system_v given) block) vars)))
+    ap
+    (λ (vars : Vars).
+    put (system_v_places places) child (at_place (block_place (block_at (system_v given) block) vars)))
     (same-set parent.vars parent.left)
     ∙ (ap (λ (p : Place). put (system_v_places places) child (at_place p)) (begins given block (child_vars parent))
     ∙ put-each system_v_progress places child (at_place (block_place (block_at given block) (child_vars parent))))

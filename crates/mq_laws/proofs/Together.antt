@@ -185,7 +185,8 @@ calls-together k m pid call n alike h =
     LeadAlike (λ s. shown_outcome (shown_call call) s.outcome) (transition k pid call n)
     (mq_transition j pid (shown_call call) n))
     (sym alike.shown)
-    (alike-again k alike.sound pid call n (λ s. shown_outcome (shown_call call) s.outcome) (transition k pid call n) refl
+    (alike-again k alike.sound pid call n (λ s. shown_outcome (shown_call call) s.outcome)
+    (transition k pid call n) refl
     (mq_transition (shown_kernel k) pid (shown_call call) n) (together k alike.queues alike.sound pid call n h))
 
 pub refusals-together : RefusalsStepTogether
@@ -195,7 +196,8 @@ refusals-together k m pid given why n alike is h =
     LeadAlike (λ s. alone (Refused why)) (transition k pid calls.SigPending n)
     (mq_transition j pid (given_call given) n))
     (sym alike.shown)
-    (alike-again k alike.sound pid calls.SigPending n (λ s. alone (Refused why)) (transition k pid calls.SigPending n) refl
+    (alike-again k alike.sound pid calls.SigPending n (λ s. alone (Refused why))
+    (transition k pid calls.SigPending n) refl
     (mq_transition (shown_kernel k) pid (given_call given) n)
     (refusals k alike.queues alike.sound pid given why n is h))
 

@@ -150,8 +150,10 @@ looks-pending k pid n s step =
 ends-by : (why : MqErrno) (b c : Bool)
     → (if b then Some (Base Einval) else if c then Some Emsgsize else None) ≡ Some why
     → is_tried_again (written_error why) ≡ false
-ends-by why true c h = let same : Base Einval ≡ why = cc in ap (λ (w : MqErrno). is_tried_again (written_error w)) (sym same)
-ends-by why false true h = let same : Emsgsize ≡ why = cc in ap (λ (w : MqErrno). is_tried_again (written_error w)) (sym same)
+ends-by why true c h =
+    let same : Base Einval ≡ why = cc in ap (λ (w : MqErrno). is_tried_again (written_error w)) (sym same)
+ends-by why false true h =
+    let same : Emsgsize ≡ why = cc in ap (λ (w : MqErrno). is_tried_again (written_error w)) (sym same)
 ends-by why false false h = absurd (cc)
 
 abbrev pub pending_entry : ℕ → Outcome → ℕ → Entry
@@ -187,7 +189,8 @@ pub refused-same : (script : Script) (places : Places) (e : Entry) (p : Progress
     → e.call ≡ calls.SigPending → Pending e.outcome → is_given_call given ≡ true → refusal_of given ≡ Some why
     → places_after script places (written (shown_refused e given why)) p ≡ places_after script places e p
 refused-same script places e p given why at pending is h =
-    let same : e ≡ pending_entry e.pid (reply_alone (let a : Alive = pending.alive in replies.Bits a.row.signals.pending)) e.by =
+    let a : Alive = pending.alive
+    in let same : e ≡ pending_entry e.pid (reply_alone (replies.Bits a.row.signals.pending)) e.by =
     ap (λ (c : Call). (let x : Entry = record { pid = e.pid; call = c; outcome = e.outcome; by = e.by } in x)) at
     ∙ ap (λ (o : Outcome). pending_entry e.pid o e.by) pending.is
     in subst

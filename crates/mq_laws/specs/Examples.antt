@@ -1,5 +1,5 @@
--- Worked examples, computed by the checker: a kernel that stands for one of POSIX message queues, and a journal with the
--- history that it stands for.
+-- Worked examples, computed by the checker: a kernel that stands for one of POSIX message queues, and a journal with
+-- the history that it stands for.
 use Rattle.std.specs.Prelude.{◌≡◌, ℕ, pos, negsuc, true, false, List, [], ◌∷◌, Option, Some, None, refl, codes}
 use Rattle.pico_base.specs.declared.call.Call.{Call}
 use Rattle.pico_base.specs.declared.call.Call.TheVariants as calls
