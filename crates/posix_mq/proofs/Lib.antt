@@ -1,4 +1,5 @@
 mod Places
+mod Telling
 mod Trips
 mod QueueCalls
 mod OtherCalls

@@ -1,3 +1,4 @@
 pub mod Followed
 pub mod Given
 pub mod Terms
+pub mod Told
