@@ -1,20 +1,16 @@
 -- Where processes are, as the code moves them and as a history has them.
-use Rattle.std.proofs.Common.{◌≡◌, ◌∙◌, ℕ, ◌<◌, ◌+◌, List, [], ◌∷◌, ◌++◌, length, drop, Option, Some, None, refl, sym, ap, subst, arith, get_or, append_assoc}
+use Rattle.std.proofs.Common.{◌≡◌, ◌∙◌, ℕ, ◌<◌, ◌+◌, [], ◌∷◌, ◌++◌, length, drop, Option, Some, refl, sym, ap, subst, get_or, append_assoc}
 use Rattle.std.proofs.lemmas.List.{drop_more}
 use Rattle.pico_base.specs.declared.call.Call.{Call}
 use Rattle.pico_base.specs.declared.call.Call.TheVariants as calls
 use Rattle.pico_base.specs.declared.reply.Reply.{Reply}
 use Rattle.pico_base.specs.declared.reply.Reply.TheVariants as replies
-use Rattle.pico_base.specs.declared.reply.Entry.{Entry}
-use Rattle.pico_base.specs.declared.script.Line.{Line}
 use Rattle.pico_base.specs.declared.script.Script.{Script}
 use Rattle.number_maps.specs.Maps.{Numbered, get, put}
 use Rattle.number_maps.specs.Rising.{IsRising}
 use Rattle.number_maps.proofs.LookUps.{put-greater}
 use Rattle.number_maps.proofs.Rising.{Above, above-first, rising-rest}
-use Rattle.kernel_model.specs.Script.{Vars, call_of}
-use Rattle.kernel_model.specs.Fitting.{Place, call_due, child_vars, is_due_again, place_after, set_variable, value_in}
-use Rattle.waiting_model.specs.Fitting as waiting
+use Rattle.kernel_model.specs.Fitting.{Place}
 use Rattle.waiting_model.specs.Fitting.{Places, Progress, after_entry, after_fork, after_wake, after_woken}
 use Rattle.posix_mq.specs.Followed.{forked_by, with_forked, moved_at}
 

@@ -1,5 +1,5 @@
 -- A history's text by its journal, entry by entry.
-use Rattle.std.proofs.Common.{◌≡◌, ◌∙◌, ℕ, ◌+◌, Bool, true, false, List, [], ◌∷◌, ◌++◌, length, Option, Some, None, refl, sym, ap, subst, append_assoc, suc, ◌<◌, drop, get_or, arith, pos, negsuc}
+use Rattle.std.proofs.Common.{◌≡◌, ◌∙◌, ℕ, ◌+◌, Bool, false, List, [], ◌∷◌, ◌++◌, length, Option, Some, None, refl, sym, ap, subst, append_assoc, suc, ◌<◌, drop, get_or, arith, pos, negsuc}
 use Rattle.std.proofs.lemmas.List.{append-nil, drop_more}
 use Rattle.std.proofs.lemmas.List.Sums.{sum_by-drop_more}
 use Rattle.std.specs.Prelude.{count_by, sum_by, if◌then◌else◌}
@@ -7,22 +7,21 @@ use Rattle.std.specs.List.{flat_map}
 use Rattle.std.specs.Option.{option_and_then}
 use Rattle.pico_base.specs.declared.call.Call.{Call}
 use Rattle.pico_base.specs.declared.call.Call.TheVariants as calls
-use Rattle.pico_base.specs.declared.reply.Errno.{Errno}
 use Rattle.pico_base.specs.declared.reply.Errno.TheVariants as errors
 use Rattle.pico_base.specs.declared.reply.Reply.{Reply}
 use Rattle.pico_base.specs.declared.reply.Reply.TheVariants as replies
 use Rattle.pico_base.specs.declared.reply.Entry.{Entry}
 use Rattle.pico_base.specs.declared.script.Script.{Script}
 use Rattle.number_maps.specs.Maps.{get}
-use Rattle.kernel_model.specs.Trace.{is_fork, is_not_ready_reply, is_refused_reply, replies_where, totals_line, entries_total, processes_total, not_ready_total, refused_total}
+use Rattle.kernel_model.specs.Trace.{is_fork, is_not_ready_reply, is_refused_reply, replies_where, totals_line}
 use Rattle.waiting_model.specs.Fitting.{Places, Progress, opening_places}
 use Rattle.trace_text.specs.Totals.{Counts, tally_of}
 use Rattle.mq_model.specs.declared.errno.MqErrno.{MqErrno}
 use Rattle.mq_model.specs.declared.errno.MqErrno.TheVariants.{Base, Ebadf, Emsgsize}
-use Rattle.mq_model.specs.Calls.{MqCall, MqReply, MqEntry, Open, Send, Receive, GetAttr, Other, Refused}
+use Rattle.mq_model.specs.Calls.{MqCall, MqEntry, Other, Refused}
 use Rattle.mq_model.specs.Fitting.{written_error}
 use Rattle.mq_model.specs.Shown.{due_in, history_from, history_of, places_behind, shown_at, stands_for}
-use Rattle.mq_model.specs.SystemV.{given_call, refusal_of, shown, shown_call, shown_error, shown_on_queues, shown_own, shown_reply}
+use Rattle.mq_model.specs.SystemV.{given_call, refusal_of, shown, shown_call, shown_on_queues, shown_own}
 use Rattle.mq_model.specs.Text.{is_mq_fork, is_mq_not_ready, is_mq_refused, mq_line, mq_replies_where, mq_totals_line, mq_trace_text}
 use Rattle.posix_mq.specs.declared.text.Refusal.{Refusal}
 use Rattle.posix_mq.specs.Told.{counted, counted_from, counted_of, refusal_at, refused_as, told_of}

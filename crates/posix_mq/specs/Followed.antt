@@ -1,5 +1,5 @@
 -- Where the processes of a history are, as the code moves them.
-use Rattle.std.specs.Prelude.{ℕ, ◌∷◌, Option, Some, None}
+use Rattle.std.specs.Prelude.{ℕ, Option, Some, None}
 use Rattle.pico_base.specs.declared.call.Call.{Call}
 use Rattle.pico_base.specs.declared.call.Call.TheVariants.{Fork}
 use Rattle.pico_base.specs.declared.reply.Reply.{Reply}

@@ -1,5 +1,5 @@
 -- The given calls of a script, as they are kept beside the script of System V that runs it.
-use Rattle.std.specs.Prelude.{ℕ, ℤ, pos, negsuc, List, map, if◌then◌else◌, Option, Some}
+use Rattle.std.specs.Prelude.{ℕ, ℤ, pos, negsuc, List, map, if◌then◌else◌, Some}
 use Rattle.pico_base.specs.declared.call.Call.{Call}
 use Rattle.pico_base.specs.declared.call.Call.TheVariants as calls
 use Rattle.pico_base.specs.declared.script.Line.{Line}

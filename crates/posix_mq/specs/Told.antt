@@ -1,5 +1,5 @@
 -- What the text of a history tells of an entry, and what the totals count of it.
-use Rattle.std.specs.Prelude.{ℕ, List, [], ◌∷◌, Option, Some, None}
+use Rattle.std.specs.Prelude.{List, [], ◌∷◌, Option, Some, None}
 use Rattle.std.specs.Option.{option_and_then}
 use Rattle.pico_base.specs.declared.call.Call.{Call}
 use Rattle.pico_base.specs.declared.call.Call.TheVariants.{SigPending}

@@ -8,8 +8,8 @@ ghost use Rattle.kernel_model.specs.Trace.{create_words, by_text, wake_text, lab
 ghost use Rattle.mq_model.specs.SystemV as system;
 ghost use Rattle.mq_model.specs.Text as text;
 
-use mq_model::MqErrno;
 use crate::system_v::turned;
+use mq_model::MqErrno;
 use pico_base::{Bytes, Call, Entry, Errno, Id, Memory, Pid, Reply, Script};
 use std::alloc::Global;
 use trace_text::{push, push_byte, push_call, push_number, push_reply};
