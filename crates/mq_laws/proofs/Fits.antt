@@ -92,6 +92,7 @@ fits-on given journal is_given legal to fits =
     fits-along given is_given journal plain.opening legal.last (opening_places given) to (opening-given given is_given)
     legal.replays (subst (λ (x : Places). FitsFrom (system_v given) x journal to) (same-opening given) fits)
 
+-- what a journal stands for fits the given script, since the journal fits the script of System V line for line
 pub histories-fit : HistoriesFit
 histories-fit given journal is_given legal fits =
     let on : FitsOn given (opening_places given) (history_of given journal) fits.last =
@@ -110,6 +111,7 @@ over-all : (places : Places) → AllByRecursion IsOver (system_v_places places) 
 over-all [] over = tt
 over-all (e ∷ places) over = (over-one e.0 e.1 over.0, over-all places over.1)
 
+-- and fits it whole, since the places of both scripts are over together
 pub histories-fit-whole : HistoriesFitWhole
 histories-fit-whole given journal is_given legal fits =
     let on : FitsOn given (opening_places given) (history_of given journal) fits.last =

@@ -21,9 +21,11 @@ use Rattle.mq_model.specs.Given.{IsGiven, is_given_block, is_given_line}
 use Rattle.mq_laws.proofs.Due.{is_given_place}
 use Rattle.mq_laws.proofs.Messages.{all-there}
 
+-- the lines that are left to a process are lines of a given script
 abbrev pub IsGivenProgress : Progress → Type 0
 IsGivenProgress p = is_given_place p.place ≡ true
 
+-- so are those that are left to each
 abbrev pub AreGiven : Places → Type 0
 AreGiven places = AllValues IsGivenProgress places
 
@@ -136,5 +138,6 @@ given-places given is places e p all h =
     (all-put IsGivenProgress places e.pid (after_entry e.call e.outcome.own p) all
     (given-entry e.call e.outcome.own p h)))
 
+-- process 1 begins with the lines of the first block
 pub opening-given : (given : Script) → IsGiven given → AreGiven (opening_places given)
 opening-given given is = (begins-given given is 1 [], tt)

@@ -132,6 +132,7 @@ legal-along given is_given (e ∷ es) k last m places to alike all r f =
 opening-alike : Alike plain.opening opening
 opening-alike = record { shown = refl; queues = tt; sound = opening-sound }
 
+-- from the two opening kernels, which are alike, the two histories step together
 pub histories-legal : HistoriesAreLegal
 histories-legal given journal is_given legal fits =
     let on : LegalFrom opening (history_of given journal) =

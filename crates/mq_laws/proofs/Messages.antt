@@ -29,12 +29,14 @@ pub record Turned (z : ℤ) : Type 0 where
   pub above : 1 ≤ class
   pub below : class ≤ 32
 
+-- a type that stands for a priority is from 1 to 32
 pub turned-class : (z : ℤ) → is_turned z ≡ true → Turned z
 turned-class (pos c) h =
     let parts = and_parts (nat_le 1 c) (nat_le c 32) h
     in record { class = c; is = refl; above = leb-true 1 c parts.0; below = leb-true c 32 parts.1 }
 turned-class (negsuc n) h = absurd (true≢false (sym h))
 
+-- a message that stands for one of POSIX has such a type, and a text of at most 16 bytes
 pub bounded : (m : plain.Message) → stands_for_message m ≡ true → Bounded m
 bounded m h =
     let parts = and_parts (is_turned m.class) (nat_le (length m.text) max_text) h
@@ -144,6 +146,7 @@ more-lowest m b ms l =
           (if-higher t b.class l.class);
     }
 
+-- among messages there is one of the lowest type, which is the highest priority
 pub lowest : (m : plain.Message) (ms : List plain.Message) → list_all stands_for_message (m ∷ ms) ≡ true
     → Lowest (m ∷ ms)
 lowest m [] h = one-lowest m (bounded m (and_parts (stands_for_message m) true h).0)
@@ -189,6 +192,7 @@ map-drop f zero xs = refl
 map-drop f (suc n) [] = refl
 map-drop f (suc n) (x ∷ xs) = map-drop f n xs
 
+-- what is taken out before a map and behind it
 pub map-remove : {A B : Type 0} (f : A → B) (xs : List A) (i : ℕ) → map f (remove xs i) ≡ remove (map f xs) i
 map-remove f xs i =
     map-append f (take i xs) (drop (suc i) xs) ∙ rw (map-take f i xs, map-drop f (suc i) xs) refl
@@ -200,6 +204,7 @@ all-and test (x ∷ xs) ys h g =
     let parts = and_parts (test x) (list_all test xs) h
     in and_from (test x) (list_all test (xs ++ ys)) parts.0 (all-and test xs ys parts.1 g)
 
+-- one more of a kind
 pub all-more : {A : Type 0} (test : A → Bool) (xs : List A) (x : A) → list_all test xs ≡ true → test x ≡ true
     → list_all test (xs ++ x ∷ []) ≡ true
 all-more test xs x h g = all-and test xs (x ∷ []) h (and_from (test x) true g refl)
@@ -218,11 +223,13 @@ all-dropped test zero xs h = h
 all-dropped test (suc n) [] h = refl
 all-dropped test (suc n) (x ∷ xs) h = all-dropped test n xs (and_parts (test x) (list_all test xs) h).1
 
+-- one less of a kind
 pub all-removed : {A : Type 0} (test : A → Bool) (xs : List A) (i : ℕ) → list_all test xs ≡ true
     → list_all test (remove xs i) ≡ true
 all-removed test xs i h =
     all-and test (take i xs) (drop (suc i) xs) (all-taken test i xs h) (all-dropped test (suc i) xs h)
 
+-- each that is there is of the kind
 pub all-there : {A : Type 0} (test : A → Bool) (xs : List A) (i : ℕ) (x : A) → list_all test xs ≡ true
     → slice_get xs i ≡ Some x → test x ≡ true
 all-there test [] i x all is = absurd (cc)

@@ -76,12 +76,15 @@ same-call line vars = by-line line.call vars line.from
 
 -- ---- places
 
+-- a place in the given script as one in the script of System V, line for line
 abbrev pub system_v_place : Place → Place
 system_v_place place = record place { left = map system_v_line place.left }
 
+-- how far a process is, as it is in the script of System V
 abbrev pub system_v_progress : Progress → Progress
 system_v_progress p = record p { place = system_v_place p.place }
 
+-- the same of each process
 abbrev pub system_v_places : Places → Places
 system_v_places places = each system_v_progress places
 
@@ -124,6 +127,7 @@ begins given n vars =
     ap (λ (o : Option Block). block_place o vars) (slice_get-map system_v_block given.blocks (n - 1))
     ∙ same-block (block_at given n) vars
 
+-- both scripts are begun at the same places
 pub same-opening : (given : Script) → opening_places (system_v given) ≡ system_v_places (opening_places given)
 same-opening given =
     ap (λ (p : Place). (let e : ℕ × Progress = (1, at_place p) in e ∷ [])) (begins given 1 [])

@@ -178,6 +178,7 @@ refusals k stand sound pid given why n is h = no-refusal why h
 
 -- ---- the laws
 
+-- a call that is carried out, and the call that it stands for
 pub calls-together : CallsStepTogether
 calls-together k m pid call n alike h =
     subst
@@ -189,6 +190,7 @@ calls-together k m pid call n alike h =
     (transition k pid call n) refl
     (mq_transition (shown_kernel k) pid (shown_call call) n) (together k alike.queues alike.sound pid call n h))
 
+-- a look at the pending signals, and the call that its arguments refuse
 pub refusals-together : RefusalsStepTogether
 refusals-together k m pid given why n alike is h =
     subst
@@ -201,5 +203,6 @@ refusals-together k m pid given why n alike is h =
     (mq_transition (shown_kernel k) pid (given_call given) n)
     (refusals k alike.queues alike.sound pid given why n is h))
 
+-- both
 pub kernels-together : KernelsStepTogether
 kernels-together = (calls-together, refusals-together)

@@ -133,6 +133,7 @@ pub record Pending (outcome : Outcome) : Type 0 where
   pub alive : Alive
   pub is : outcome ≡ reply_alone (replies.Bits alive.row.signals.pending)
 
+-- a look at the pending signals has its reply at once, and wakes nobody
 pub looks-pending : (k : Kernel) (pid n : ℕ) (s : Successor) → transition k pid calls.SigPending n ≡ Some s
     → Pending s.outcome
 looks-pending k pid n s step =

@@ -16,6 +16,7 @@ use Rattle.script_reader.proofs.Saying.{bytes_same}
 use Rattle.mq_model.specs.Reading.{is_system_v}
 use Rattle.mq_model.specs.Given.{is_given_call}
 
+-- the call that a form gives may stand in a given script
 abbrev pub IsGivenCall : FromCall → Type 0
 IsGivenCall c = is_given_call c.1 ≡ true
 

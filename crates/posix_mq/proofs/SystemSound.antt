@@ -27,7 +27,8 @@ is_either f false x y z e g = g
 
 -- what is asked of a call that sends or receives is what is asked of each call that stands for it
 module _ {A : Type 0} (f : Call → A)
-    (sends : (id : ℕ) (class : ℤ) (text : List ℕ) (nowait : Bool) → f (calls.MsgSnd id class text nowait) ≡ f calls.SigPending)
+    (sends : (id : ℕ) (class : ℤ) (text : List ℕ) (nowait : Bool)
+    → f (calls.MsgSnd id class text nowait) ≡ f calls.SigPending)
     (receives : (id : ℕ) (class : ℤ) (size : ℕ) (noerror nowait : Bool)
     → f (calls.MsgRcv id class size noerror nowait) ≡ f calls.SigPending) where
   pub same_call : (call : Call) → f (system_v_call call) ≡ f call

@@ -74,12 +74,14 @@ forks-shown (calls.MsgSnd id (negsuc class) text nowait) = refl
 forks-shown call = refl
 
 -- an error counts as it is written
-not-ready-error : (why : MqErrno) → is_mq_not_ready (Some (Refused why)) ≡ is_not_ready_reply (Some (replies.Fail (written_error why)))
+not-ready-error : (why : MqErrno)
+    → is_mq_not_ready (Some (Refused why)) ≡ is_not_ready_reply (Some (replies.Fail (written_error why)))
 not-ready-error (Base e) = refl
 not-ready-error Ebadf = refl
 not-ready-error Emsgsize = refl
 
-refused-error : (why : MqErrno) → is_mq_refused (Some (Refused why)) ≡ is_refused_reply (Some (replies.Fail (written_error why)))
+refused-error : (why : MqErrno)
+    → is_mq_refused (Some (Refused why)) ≡ is_refused_reply (Some (replies.Fail (written_error why)))
 refused-error (Base e) = refl
 refused-error Ebadf = refl
 refused-error Emsgsize = refl
