@@ -13,7 +13,7 @@ use Rattle.mq_model.specs.Reading.{Reads, IsFirstFault, outcome}
 use Rattle.mq_model.specs.Shown.{history_of}
 use Rattle.mq_model.specs.SystemV.{system_v}
 use Rattle.mq_model.specs.Text.{mq_trace_text}
-use Rattle.mq_laws.specs.Laws.{HistoriesAreLegal, HistoriesFitWhole}
+use Rattle.mq_laws.specs.Histories.{HistoriesAreLegal, HistoriesFitWhole}
 use Rattle.pico_words.specs.declared.words.Request.TheVariants.{Queues}
 use Rattle.pico_run.specs.declared.rested.Rested.{Rested}
 use Rattle.pico_run.specs.Rested.{IsRested}

@@ -1,7 +1,7 @@
 -- What a run of a script of POSIX message queues comes to.
 use Rattle.std.specs.Prelude.{◌≡◌, ℕ, Bool, List, [], ◌∷◌, ◌++◌}
 use Rattle.pico_base.specs.declared.script.Script.{Script}
-use Rattle.posix_mq.specs.declared.read.MqScript.{MqScript}
+use Rattle.posix_mq.specs.declared.script.MqScript.{MqScript}
 use Rattle.mq_model.specs.Fitting.{FitsWhole}
 use Rattle.mq_model.specs.History.{IsLegal}
 use Rattle.mq_model.specs.Lines.{script_given}

@@ -2,7 +2,7 @@
 ghost use Rattle.world_core.specs.Laws.{RestIsWhereNothingIsChosen};
 ghost use Rattle.rest_laws.specs.Laws.{NamesHaveOneOwner, NeverWaitsNeverStalls, NoneLivesUnlessStalled, RestIsQuiet, RestIsWhole, SomebodyWaitsWhereStalled, WhoLivesAtRestWaits};
 ghost use Rattle.run_laws.specs.Laws.{JournalsAreLegal, RunsAreShort};
-ghost use Rattle.mq_laws.specs.Laws.{HistoriesAreLegal, HistoriesFitWhole};
+ghost use Rattle.mq_laws.specs.Histories.{HistoriesAreLegal, HistoriesFitWhole};
 ghost use Rattle.pico_cmd.specs.Laws.{ThawOfFreezeIsSim};
 
 use mq_laws::{histories_are_legal, histories_fit_whole};
