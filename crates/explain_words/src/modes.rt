@@ -1,7 +1,9 @@
 //! The modes, and the words that the usage line names.
 
 /// The names of the modes.
-pub static MODES: [&str; 8] = ["run", "sim", "check", "gen", "mq", "boxes", "freeze", "thaw"];
+pub static MODES: [&str; 8] = [
+    "run", "sim", "check", "gen", "mq", "boxes", "freeze", "thaw",
+];
 
 /// All options.
 pub static OPTIONS: [&str; 6] = ["--seed", "--steps", "--help", "-h", "--version", "--prove"];
