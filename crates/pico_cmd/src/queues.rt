@@ -19,7 +19,7 @@ use crate::status::Status;
 use crate::threaded::with_events;
 use boxes_run::RestedList;
 use host_iface::Gate;
-use pico_base::{Bytes, Memory};
+use pico_base::{Bytes, Memory, Script};
 use pico_run::{Rested, run};
 use posix_mq::{MqScript, mq_trace, read_mq};
 use script_reader::ScriptStop;
@@ -34,6 +34,16 @@ fn trace_of(alloc: Global, read: &MqScript, rested: &Rested) -> Result<Bytes, Me
         text ≡ mq_trace_text read.now.script (history_of (given_in read.now) w.journal))) }
 {
     mq_trace(alloc, read, rested.world.journal().as_slice())
+}
+
+// A sound script that is the same, which a run takes.
+fn sound_copy(alloc: Global, script: &Script) -> Result<Script, Memory>
+    requires { IsSoundScript script.now }
+    ensures same { IfOk result (λ copy. copy ≡ script.now) }
+    ensures sound { IfOk result IsSoundScript }
+{
+    let copy = copy_of(alloc, script)?;
+    Ok(copy)
 }
 
 // The answer of the run with threads of the script of System V that runs a given one.
@@ -51,7 +61,7 @@ fn run_given<R: Threads + Wait + Sync, G: Gate>(
 {
     laws();
     queue_laws();
-    let script = copy_of(alloc, &read.script)?;
+    let script = sound_copy(alloc, &read.script)?;
     let rested = run(rt, alloc, script, gate)?;
     let told = trace_of(alloc, read, &rested)?;
     let text = with_events(alloc, told, steps, &rested)?;

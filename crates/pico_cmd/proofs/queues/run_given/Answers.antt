@@ -1,6 +1,5 @@
-use Rattle.std.proofs.Common.{◌≡◌, ◌++◌, ℕ, List, [], ◌∷◌, refl, ap, sym, subst, ◌∙◌}
+use Rattle.std.proofs.Common.{◌≡◌, ◌++◌, ℕ, List, [], ◌∷◌, refl, ap, subst, ◌∙◌}
 use Rattle.pico_base.specs.declared.script.Script.{Script}
-use Rattle.kernel_model.specs.Script.{IsSoundScript}
 use Rattle.mq_model.specs.Shown.{history_of}
 use Rattle.mq_model.specs.Text.{mq_trace_text}
 use Rattle.world_model.specs.World.{World}
@@ -13,14 +12,11 @@ use Rattle.pico_cmd.proofs.QueueAnswers.{QueueLaws, answers_queues}
 use Rattle.pico_cmd.proofs.RunLaws.{Laws}
 use Rattle.pico_cmd.proofs.queues.run_given.Goals as goal
 
-pub run-requires : goal.run-requires
-run-requires g c = subst IsSoundScript (sym c.in_ok-script.ensures) c.requires.sound
-
 pub returns : goal.returns
 returns g c =
     let script : Script = c.args.read.now.script in
     let r : Rested = c.in_ok-rested.rested in
-    let k : IsRested script r = subst (λ (s : Script). IsRested s r) c.in_ok-script.ensures c.in_ok-rested.ensures in
+    let k : IsRested script r = subst (λ (s : Script). IsRested s r) c.in_ok-script.ensures.same c.in_ok-rested.ensures in
     let told : List ℕ = c.in_ok-told.told in
     let given : Script = given_in c.args.read.now in
     let laws : Laws = record {
