@@ -5,7 +5,7 @@ use Rattle.log_tests.proofs.Opened.{opened-has-seat}
 use Rattle.log_tests.proofs.two.Two.new.Goals as goal
 
 pub returns : goal.returns
-returns c =
+returns g c =
     let script = c.args.script.now
     in let lock = c.in_ok-lock.lock
     in let numbered : AreNumbered lock.id 1 (c.two_of-seat.result.0 ∷ c.two_of-seat.result.1 ∷ []) =
