@@ -11,6 +11,7 @@ ghost use Rattle.mq_model.specs.Reading.{HasFault, IsFirstFault, Reads};
 ghost use Rattle.mq_model.specs.Given.{IsGiven};
 ghost use Rattle.mq_model.specs.Lines.{script_given};
 ghost use Rattle.mq_model.specs.SystemV.{system_v};
+ghost use Rattle.posix_mq.specs.Given.{given_in};
 
 use crate::says::read_mq_line;
 use crate::script::MqScript;
@@ -106,6 +107,7 @@ pub fn read_mq(alloc: Global, bytes: &[u8]) -> Result<MqScript, ScriptStop>
     // The bytes are the text of what is read, and it is run as it should be.
     ensures ok { IfOk result (λ read. Reads bytes.now (script_given read.script read.lines)) }
     ensures runs { IfOk result (λ read. read.script ≡ system_v (script_given read.script read.lines)) }
+    ensures lines { IfOk result (λ read. read.lines ≡ given_in (script_given read.script read.lines)) }
     ensures sound { IfOk result (λ read. IsSoundScript (script_given read.script read.lines)) }
     ensures sound_script { IfOk result (λ read. IsSoundScript read.script) }
     ensures is_given { IfOk result (λ read. IsGiven (script_given read.script read.lines)) }

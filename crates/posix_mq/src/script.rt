@@ -206,6 +206,7 @@ impl MqScript {
     /// The script of a given one, whose calls on queues are those of POSIX message queues in System V's words.
     pub(crate) fn of(alloc: Global, given: &Script) -> Result<MqScript, Memory>
         ensures runs { IfOk result (λ made. made.script ≡ system.system_v given.now) }
+        ensures lines { IfOk result (λ made. made.lines ≡ kept.given_in given.now) }
         ensures given { IsGiven given.now
             → IfOk result (λ made. spec.script_given made.script made.lines ≡ given.now) }
     {

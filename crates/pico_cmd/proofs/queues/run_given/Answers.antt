@@ -16,7 +16,8 @@ pub returns : goal.returns
 returns g c =
     let script : Script = c.args.read.now.script in
     let r : Rested = c.in_ok-rested.rested in
-    let k : IsRested script r = subst (λ (s : Script). IsRested s r) c.in_ok-script.ensures.same c.in_ok-rested.ensures in
+    let k : IsRested script r =
+    subst (λ (s : Script). IsRested s r) c.in_ok-script.ensures.same c.in_ok-rested.ensures in
     let told : List ℕ = c.in_ok-told.told in
     let given : Script = given_in c.args.read.now in
     let laws : Laws = record {
