@@ -22,9 +22,11 @@ use Rattle.script_reader.proofs.Tidy.{IsTidy, all_push}
 
 -- ---- the forks of the lines so far
 
+-- the blocks that the forks in these lines name, in order
 abbrev pub targets : List Line → List ℕ
 targets lines = flat_map (λ line. fork_targets line.call) lines
 
+-- the forks in the lines of the block with this number
 abbrev pub forks_of_lines : ℕ → List Line → List Fork
 forks_of_lines n lines = map (fork_from n) (targets lines)
 

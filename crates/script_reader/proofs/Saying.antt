@@ -46,9 +46,11 @@ fine_cond names o false x y f g = g
 
 -- ---- in front of a call
 
+-- what stands in front of a call sets a variable that there can be
 abbrev pub IsSet : Option ℕ → Type 0
 IsSet set = model.is_variable set ≡ true
 
+-- a call is tried once, or as many times as a script may say
 abbrev pub IsTries : Option ℕ → Type 0
 IsTries tries = (leb 1 (unwrap_or tries 1) && leb (unwrap_or tries 1) 20000) ≡ true
 
