@@ -11,3 +11,4 @@ pub mod Lines
 pub mod Fitting
 pub mod Shown
 pub mod Examples
+pub mod ReadingExamples
