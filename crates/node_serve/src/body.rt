@@ -2,7 +2,7 @@
 use fork_wait::Family;
 use pico_base::Ending;
 use signal_state::Signals;
-use sysv_msg::Queue as MessageQueue;
+use sysv_msg::HeldQueue;
 use sysv_sem::SemSet;
 
 /// The row of a living process: its signals and its children. What it may still do isn't kept in it: that follows from
@@ -21,7 +21,7 @@ pub enum Body {
     Living(Row),
     Ended(Ending),
     Gone,
-    Queue(MessageQueue),
+    Queue(HeldQueue),
     Set(SemSet),
     Removed,
 }

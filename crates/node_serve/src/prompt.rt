@@ -17,7 +17,7 @@ use deed_box::Deeds;
 use node_calls::may_park;
 use pico_base::{Bytes, Call, Errno, Id, Memory, Name, Pid, Reply, SemStep};
 use std::alloc::Global;
-use sysv_msg::{Queue, SendFault};
+use sysv_msg::{HeldQueue, ReceiveFault, SendFault};
 use sysv_sem::SemSet;
 
 /// The reply to a call that has it at once and wakes nobody, and whether the call read.
@@ -54,7 +54,7 @@ fn stopped(nowait: bool, errno: Errno) -> Option<Replied>
 #[inline(always)]
 fn send(
     alloc: Global,
-    queue: &mut Queue,
+    queue: &mut HeldQueue,
     pid: Pid,
     class: i32,
     text: &[u8],
@@ -76,25 +76,26 @@ fn send(
 /// msgrcv, where nobody waits. None: it has to wait.
 #[inline(always)]
 fn receive(
-    queue: &mut Queue,
+    queue: &mut HeldQueue,
     pid: Pid,
     class: i32,
     size: u32,
     noerror: bool,
     nowait: bool,
-) -> Option<Replied>
+) -> Result<Option<Replied>, Memory>
     requires nobody { queue.old.waiters ≡ [] }
-    ensures { GoesOr queue.old
+    ensures { IfOk result (GoesOr queue.old
         (try_receive queue.old.state nowait (definition.receive queue.old.state pid class size noerror))
-        (has_read (calls.MsgRcv 0 class size noerror nowait)) queue.new result }
+        (has_read (calls.MsgRcv 0 class size noerror nowait)) queue.new) }
 {
     match queue.receive(pid, class, size, noerror) {
-        Ok(message) => Some(Replied {
+        Ok(message) => Ok(Some(Replied {
             reply: message.into_reply(),
             reads: true,
-        }),
-        Err(Errno::Enomsg) => stopped(nowait, Errno::Enomsg),
-        Err(errno) => unread(Reply::Fail(errno)),
+        })),
+        Err(ReceiveFault::No(Errno::Enomsg)) => Ok(stopped(nowait, Errno::Enomsg)),
+        Err(ReceiveFault::No(errno)) => Ok(unread(Reply::Fail(errno))),
+        Err(ReceiveFault::Memory) => Err(Memory),
     }
 }
 
@@ -102,7 +103,7 @@ fn receive(
 #[inline(always)]
 fn on_queue(
     alloc: Global,
-    queue: &mut Queue,
+    queue: &mut HeldQueue,
     id: Id,
     who: &Who,
     call: &Call,
@@ -133,7 +134,7 @@ fn on_queue(
             if *at != id {
                 return Ok(None);
             }
-            Ok(receive(queue, who.pid, *class, *size, *noerror, *nowait))
+            receive(queue, who.pid, *class, *size, *noerror, *nowait)
         }
         _ => Ok(None),
     }

@@ -14,13 +14,13 @@ use crate::waiting::{at_once, waiting_with};
 use node_calls::may_park;
 use pico_base::{Bytes, Call, Errno, Memory, Pid, Reply};
 use std::alloc::Global;
-use sysv_msg::{Queue, SendFault};
+use sysv_msg::{HeldQueue, ReceiveFault, SendFault};
 use waiting_model::Applied;
 
 /// msgsnd that needn't wait, where nobody waits: EINVAL or EAGAIN. A refusal for want of memory changes nothing.
 fn send(
     alloc: Global,
-    queue: &mut Queue,
+    queue: &mut HeldQueue,
     pid: Pid,
     class: i32,
     text: &[u8],
@@ -39,21 +39,30 @@ fn send(
     }
 }
 
-/// msgrcv that needn't wait, where nobody waits: ENOMSG or E2BIG.
-fn receive(queue: &mut Queue, pid: Pid, class: i32, size: u32, noerror: bool) -> Reply
+/// msgrcv that needn't wait, where nobody waits: ENOMSG or E2BIG. A refusal for want of memory changes nothing.
+fn receive(
+    queue: &mut HeldQueue,
+    pid: Pid,
+    class: i32,
+    size: u32,
+    noerror: bool,
+) -> Result<Reply, Memory>
     requires nobody { queue.old.waiters ≡ [] }
-    ensures received { take_message queue.old.state (definition.receive queue.old.state pid class size noerror)
-        ≡ done queue.new.state result }
+    ensures ok { IfOk result (λ reply.
+        take_message queue.old.state (definition.receive queue.old.state pid class size noerror)
+        ≡ done queue.new.state reply) }
     ensures still { queue.new.waiters ≡ [] }
+    ensures err { OnErr result (queue.new ≡ queue.old) }
 {
     match queue.receive(pid, class, size, noerror) {
-        Ok(message) => message.into_reply(),
-        Err(errno) => Reply::Fail(errno),
+        Ok(message) => Ok(message.into_reply()),
+        Err(ReceiveFault::No(errno)) => Ok(Reply::Fail(errno)),
+        Err(ReceiveFault::Memory) => Err(Memory),
     }
 }
 
 /// msgctl with IPC_SET, where nobody waits: EINVAL.
-fn set_qbytes(queue: &mut Queue, qbytes: u32) -> Reply
+fn set_qbytes(queue: &mut HeldQueue, qbytes: u32) -> Reply
     requires nobody { queue.old.waiters ≡ [] }
     ensures set { change queue.old.state (definition.set_qbytes queue.old.state qbytes) ≡ done queue.new.state result }
     ensures still { queue.new.waiters ≡ [] }
@@ -66,7 +75,7 @@ fn set_qbytes(queue: &mut Queue, qbytes: u32) -> Reply
 
 /// A call that needn't wait on a queue at which nobody waits, other than its removal. A refusal for want of memory
 /// changes nothing.
-fn carry_out(alloc: Global, queue: &mut Queue, pid: Pid, call: &Call) -> Result<Reply, Memory>
+fn carry_out(alloc: Global, queue: &mut HeldQueue, pid: Pid, call: &Call) -> Result<Reply, Memory>
     requires nobody { queue.old.waiters ≡ [] }
     ensures ok { IfOk result (λ reply. on_queue queue.old.state pid call.now ≡ done queue.new.state reply) }
     ensures still { queue.new.waiters ≡ [] }
@@ -79,7 +88,7 @@ fn carry_out(alloc: Global, queue: &mut Queue, pid: Pid, call: &Call) -> Result<
             size,
             noerror,
             ..
-        } => Ok(receive(queue, pid, *class, *size, *noerror)),
+        } => receive(queue, pid, *class, *size, *noerror),
         Call::MsgStat { .. } => Ok(queue.stat()),
         Call::MsgSet { qbytes, .. } => Ok(set_qbytes(queue, *qbytes)),
         _ => Ok(Reply::Fail(Errno::Einval)),
@@ -98,7 +107,12 @@ fn is_queue_call(call: &Call) -> bool
 
 /// A call that may have to wait, or that may wake others. Memory, too, for a call of another kind, and for a ticket 0.
 #[inline(never)]
-fn park_or_wake(alloc: Global, queue: &mut Queue, who: &Who, call: &Call) -> Result<Applied, Memory>
+fn park_or_wake(
+    alloc: Global,
+    queue: &mut HeldQueue,
+    who: &Who,
+    call: &Call,
+) -> Result<Applied, Memory>
     requires own { waits_here who.now.pid queue.old ≡ false }
     requires few { length queue.old.waiters < 32 }
     ensures ok { IfOk result (λ applied.
@@ -120,7 +134,7 @@ fn park_or_wake(alloc: Global, queue: &mut Queue, who: &Who, call: &Call) -> Res
 /// of another kind, and for a ticket 0.
 pub(crate) fn on_queue(
     alloc: Global,
-    queue: &mut Queue,
+    queue: &mut HeldQueue,
     who: &Who,
     call: &Call,
 ) -> Result<Applied, Memory>

@@ -14,7 +14,7 @@ use fork_wait::Family;
 use pico_base::{Ending, Name, Sig, UnpackFault};
 use signal_state::{PACKED, Signals};
 use std::alloc::Global;
-use sysv_msg::Queue;
+use sysv_msg::{HeldQueue, Queue};
 use sysv_sem::SemSet;
 
 /// The row of these bytes. NotABody: no row has them.
@@ -78,7 +78,7 @@ fn queue_of(alloc: Global, bytes: &[u8]) -> Result<Body, UnpackFault>
 {
     match bytes {
         [REMOVED] => Ok(Body::Removed),
-        _ => Ok(Body::Queue(Queue::unpack(alloc, bytes)?)),
+        _ => Ok(Body::Queue(HeldQueue::unpack(alloc, bytes)?)),
     }
 }
 

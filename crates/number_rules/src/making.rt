@@ -11,7 +11,7 @@ use node_serve::Body;
 use node_state::{Growing, LEADER, State, unreached};
 use pico_base::{Call, Id, Kind, Memory, Name, Node, Reply, Script};
 use rpc_frame::Frame;
-use sysv_msg::Queue;
+use sysv_msg::HeldQueue;
 use sysv_sem::{NewFault, SemSet};
 
 /// How many semaphores a set can have.
@@ -21,7 +21,7 @@ const MOST_SEMAPHORES: u32 = 64;
 pub fn new_queue(node: &mut State, number: u32) -> Result<Name, Memory>
     ensures { IfOk result (IsNewQueue (node_of node.old) number (node_of node.new)) }
 {
-    let queue = Queue::new(node.alloc)?;
+    let queue = HeldQueue::new(node.alloc)?;
     node.create(Name::Msg(Id(number)), Body::Queue(queue))?;
     Ok(Name::Msg(Id(number)))
 }

@@ -6,3 +6,5 @@ pub mod Stored
 pub mod Body
 pub mod Reading
 pub mod Passing
+pub mod Packed
+pub mod Held

@@ -1,4 +1,4 @@
-//! Why a message wasn't sent.
+//! Why a message wasn't sent, or wasn't received.
 use pico_base::{Bytes, Errno};
 use thiserror::Error;
 
@@ -8,6 +8,17 @@ pub enum SendFault {
     /// An allocation was refused. The text comes back.
     #[error("out of memory")]
     Memory(Bytes),
+    /// The call is refused.
+    #[error("refused: {0:?}")]
+    No(Errno),
+}
+
+/// Why a message wasn't received.
+#[derive(Debug, PartialEq, Eq, Drop, Error)]
+pub enum ReceiveFault {
+    /// An allocation was refused.
+    #[error("out of memory")]
+    Memory,
     /// The call is refused.
     #[error("refused: {0:?}")]
     No(Errno),

@@ -6,14 +6,18 @@
 mod awaiting;
 mod calls;
 mod fault;
+mod held;
 mod links;
 mod message;
 mod pack;
+mod packed;
 mod queue;
 mod reading;
 mod store;
+mod tail;
 mod unpack;
 
-pub use fault::SendFault;
+pub use fault::{ReceiveFault, SendFault};
+pub use held::HeldQueue;
 pub use message::Message;
 pub use queue::Queue;

@@ -15,7 +15,7 @@ use pico_base::{Bytes, Memory};
 use waiter_fields::put_waiters;
 
 /// The number, where it has 32 bits.
-fn short_of(number: usize) -> Option<u32>
+pub(crate) fn short_of(number: usize) -> Option<u32>
     ensures { IfSome result (λ short. short ≡ number) }
 {
     if number > u32::MAX as usize {
@@ -34,7 +34,12 @@ fn push_word(out: &mut Vec<u8>, number: u32) -> Result<(), Memory>
 }
 
 /// Adds the code and a queue's numbers at the end.
-fn push_front(out: &mut Vec<u8>, qbytes: u32, sender: u32, receiver: u32) -> Result<(), Memory>
+pub(crate) fn push_front(
+    out: &mut Vec<u8>,
+    qbytes: u32,
+    sender: u32,
+    receiver: u32,
+) -> Result<(), Memory>
     ensures bytes { OnOk result
         (out.new.items ≡ out.old.items ++ queue_code ∷ (word qbytes ++ (word sender ++ word receiver))) }
     ensures sender { OnOk result (sender < 2 ^ 32) }

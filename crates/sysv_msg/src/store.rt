@@ -73,7 +73,7 @@ fn received(outcome: Result<Message, Errno>) -> Reply
 }
 
 /// The text cut to this size. It takes no memory.
-fn cut(text: Bytes, size: u32) -> Bytes
+pub(crate) fn cut(text: Bytes, size: u32) -> Bytes
     ensures { result ≡ take size text }
 {
     let mut bytes = text.into_vec();
@@ -92,7 +92,7 @@ fn push(links: &mut Links<Bytes>, class: i32, text: Bytes)
 }
 
 /// Whether a text of this length may be taken into `size` bytes, cut if need be where MSG_NOERROR is set.
-fn fits(length: usize, size: u32, noerror: bool) -> bool
+pub(crate) fn fits(length: usize, size: u32, noerror: bool) -> bool
     ensures { result ≡ (nat_le length size || noerror) }
 {
     length <= size as usize || noerror

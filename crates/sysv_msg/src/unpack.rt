@@ -147,7 +147,7 @@ fn awaiting_of(alloc: Global, bytes: &[u8]) -> Result<Awaiting, UnpackFault>
 }
 
 /// Passes over so many messages: how many bytes their texts have, and the bytes behind them.
-fn pass_messages(count: u16, bytes: &[u8]) -> Option<(usize, &[u8])>
+pub(crate) fn pass_messages(count: u16, bytes: &[u8]) -> Option<(usize, &[u8])>
     requires { count ≤ 1024 }
     ensures { IfSome result (λ x. Passes count bytes.now x.0 x.1.now) }
 {
@@ -183,7 +183,7 @@ fn behind_fields(bytes: &[u8]) -> Option<&[u8]>
 }
 
 /// The bytes behind a queue's code.
-fn behind_code(bytes: &[u8]) -> Option<&[u8]>
+pub(crate) fn behind_code(bytes: &[u8]) -> Option<&[u8]>
     ensures { IfSome result (λ fields. bytes.now ≡ queue_code ∷ fields.now) }
 {
     match bytes {
@@ -193,7 +193,7 @@ fn behind_code(bytes: &[u8]) -> Option<&[u8]>
 }
 
 /// Whether the bytes are those of no waiters, all of them.
-fn are_none(waiters: &[u8]) -> bool
+pub(crate) fn are_none(waiters: &[u8]) -> bool
     ensures { OnTrue result (waiters.now ≡ 0 ∷ []) }
 {
     matches!(waiters, [0])

@@ -20,7 +20,7 @@ use std::alloc::Global;
 use std::mem::ManuallyDrop;
 use std::process::Abort;
 use std::test::Fail;
-use sysv_msg::Queue;
+use sysv_msg::HeldQueue;
 
 /// A body that is never taken apart, so that its owner is cheaper to prove.
 type Kept = ManuallyDrop<Body>;
@@ -55,7 +55,7 @@ fn a_process_s_body_comes_back(rt: HostRuntime) -> Result<(), Fail> {
 /// A queue with one message.
 fn queue_with_one(alloc: Global) -> Result<Kept, Memory> {
     let text = Bytes::from_slice(alloc, b"abc")?;
-    let mut queue = Queue::new(alloc)?;
+    let mut queue = HeldQueue::new(alloc)?;
     let _ = queue.send(Pid(1), 1, text);
     Ok(ManuallyDrop::new(Body::Queue(queue)))
 }
