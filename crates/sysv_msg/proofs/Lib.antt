@@ -12,3 +12,4 @@ pub mod Bodies
 pub mod Parts
 pub mod Copying
 pub mod Passing
+pub mod PackedMessages

@@ -7,14 +7,14 @@ use Rattle.std.specs.Prelude.{nat_le}
 use Rattle.std.specs.Int.{w16}
 use Rattle.body_fields.specs.Fields.{byte_upto, number_upto, whole}
 use Rattle.body_fields.proofs.Fields.{IsBytes}
-use Rattle.kernel_model.specs.Queue.{Message, bytes_of, max_messages, max_queue_bytes}
+use Rattle.kernel_model.specs.Queue.{Message, Queue, bytes_of, max_messages, max_queue_bytes}
 use Rattle.frame_bytes.specs.Readers.{many}
 use Rattle.frame_bytes.proofs.Loop.{goes_on, is_done, with_front}
 use Rattle.waiting_model.specs.Waiters.{unawaited}
 use Rattle.waiter_fields.specs.Waiters.{waiters_at}
-use Rattle.sysv_msg.specs.Body.{queue_code}
+use Rattle.sysv_msg.specs.Body.{IsBodyOf, queue_code}
 use Rattle.sysv_msg.specs.Passing.{HasMessages, HasState, IsUnawaited, Passes}
-use Rattle.sysv_msg.specs.Reading.{call_at, message_at, messages_at, numbers_at, queue_at, queue_of}
+use Rattle.sysv_msg.specs.Reading.{call_at, message_at, messages_at, numbers_at, queue_at, queue_of, state_at}
 use Rattle.sysv_msg.proofs.Bodies.{body-takes}
 use Rattle.sysv_msg.proofs.Parts.{all-read, state-read}
 
@@ -24,7 +24,8 @@ pub record Passing (count counter size : ℕ) (bytes rest : List ℕ) : Type 0 w
   pub read : with_front messages (many message_at (count - counter) rest) ≡ many message_at count bytes
   pub size_is : size ≡ bytes_of messages
 
-bytes-more : (ms : List Message) (m : Message) → bytes_of (ms ++ m ∷ []) ≡ bytes_of ms + length m.text
+-- one message's bytes more
+pub bytes-more : (ms : List Message) (m : Message) → bytes_of (ms ++ m ∷ []) ≡ bytes_of ms + length m.text
 bytes-more ms m = sum_by_push (λ (k : Message). length k.text) ms m
 
 nothing-before : (o : Option (List Message × List ℕ)) → with_front [] o ≡ o
@@ -61,15 +62,25 @@ has-passed count counter size bytes rest ge p =
       size_is = p.size_is;
     }
 
--- messages of no more bytes than a queue's, behind their count
+-- messages of no more bytes than a queue's are read behind their count
+pub messages-read : (bytes rest behind : List ℕ) (count : ℕ) (ms : List Message)
+    → number_upto w16 max_messages bytes ≡ Some (count, rest) → many message_at count rest ≡ Some (ms, behind)
+    → bytes_of ms ≤ max_queue_bytes → messages_at bytes ≡ Some (ms, behind)
+unfolding messages_at
+messages-read bytes rest behind count ms first read le =
+    let test : nat_le (bytes_of ms) max_queue_bytes ≡ true = grind (arith, nat_tests) in
+    rw (first, read, test) refl
+
+-- and so they are there
 pub messages-there : (bytes rest behind : List ℕ) (count size : ℕ)
     → number_upto w16 max_messages bytes ≡ Some (count, rest) → Passes count rest size behind
     → size ≤ max_queue_bytes → HasMessages bytes behind
-unfolding messages_at
 messages-there bytes rest behind count size first p le =
     let sum = p.size_is in
-    let test : nat_le (bytes_of p.messages) max_queue_bytes ≡ true = grind (arith, nat_tests) in
-    record { messages = p.messages; read = rw (first, p.read, test) refl }
+    record {
+      messages = p.messages;
+      read = messages-read bytes rest behind count p.messages first p.read (omega (arith, sum, le));
+    }
 
 -- a queue's numbers, and its messages behind them
 pub state-there : (bytes rest behind : List ℕ) (n : ℕ × ℕ × ℕ) → numbers_at bytes ≡ Some (n, rest)
@@ -85,13 +96,18 @@ unfolding waiters_at byte_upto many
 nobody-behind = refl
 
 -- a queue's own fields behind the code, and behind them that nobody waits
+pub unawaited-body : (bytes fields : List ℕ) (q : Queue) → IsBytes bytes → bytes ≡ queue_code ∷ fields
+    → state_at fields ≡ Some (q, 0 ∷ []) → IsBodyOf (unawaited q) bytes
+unfolding queue_at
+unawaited-body bytes fields q fits is state =
+    let read : queue_at bytes ≡ Some (unawaited q) =
+    ap queue_at is ∙ all-read fields (0 ∷ []) q [] state nobody-behind in
+    body-takes bytes (unawaited q) fits read
+
 pub unawaited-there : (bytes fields : List ℕ) → IsBytes bytes → bytes ≡ queue_code ∷ fields
     → HasState fields (0 ∷ []) → IsUnawaited bytes
-unfolding queue_at
 unawaited-there bytes fields fits is s =
-    let read : queue_at bytes ≡ Some (unawaited s.queue) =
-    ap queue_at is ∙ all-read fields (0 ∷ []) s.queue [] s.read nobody-behind in
-    record { queue = s.queue; is_body = body-takes bytes (unawaited s.queue) fits read }
+    record { queue = s.queue; is_body = unawaited-body bytes fields s.queue fits is s.read }
 
 -- the same where it is tested that nobody waits
 pub unawaited-where : (none : Bool) (bytes fields waiters : List ℕ) → IsBytes bytes → bytes ≡ queue_code ∷ fields

@@ -28,3 +28,9 @@ pub record Holds (count size : ℕ) (bytes : List ℕ) (ms : List Message) : Typ
 abbrev pub front_of : List Message → Option ℕ
 front_of [] = None
 front_of (m ∷ ms) = Some 0
+
+-- So many messages were taken from bytes, all of which they are but the last one, the 0 of no waiters.
+pub record HasTaken (count size : ℕ) (bytes taken : List ℕ) : Type 0 where
+  pub messages : List Message
+  pub read : many message_at count bytes ≡ Some (messages, 0 ∷ [])
+  pub holds : Holds count size taken messages

@@ -84,7 +84,7 @@ impl HeldQueue {
         ensures { IfOk result (λ q. q ≡ unawaited definition.empty_queue) }
     {
         Ok(HeldQueue {
-            form: Form::Packed(PackedQueue::new(alloc)),
+            form: Form::Linked(Queue::new(alloc)?),
         })
     }
 

@@ -1,10 +1,10 @@
 //! A queue at which nobody waits, whose messages stay as they are spelled in its packed form.
-ghost use Rattle.std.specs.Prelude.{◌≡◌, ◌+◌, [], ◌&&◌, nat_le, nat_lt, length, Some, Ok, Err, IfOk, IfErr, IfSome, OnErr, MatchResult};
+ghost use Rattle.std.specs.Prelude.{◌≡◌, ◌≤◌, ◌+◌, [], ◌&&◌, nat_le, nat_lt, length, Some, Ok, Err, IfOk, IfErr, IfSome, OnErr, MatchResult};
 ghost use Rattle.std.specs.Bool.{OnTrue};
-ghost use Rattle.kernel_model.specs.Queue.{bytes_in, empty_queue, max_messages, receive, select, send, set_qbytes, stat};
+ghost use Rattle.kernel_model.specs.Queue.{bytes_in, max_messages, receive, select, send, set_qbytes, stat};
 ghost use Rattle.waiting_model.specs.Waiters.{unawaited};
 ghost use Rattle.sysv_msg.specs.Body.{IsBodyOf};
-ghost use Rattle.sysv_msg.specs.Packed.{front_of};
+ghost use Rattle.sysv_msg.specs.Packed.{front_of, HasTaken};
 ghost use Rattle.sysv_msg.specs.Refusals.{RefusesReceive, RefusesSend};
 
 use crate::pack::push_front;
@@ -45,21 +45,24 @@ impl Model for PackedQueue {
         × Holds q.count q.size q.messages (messages_in q.count q.messages) };
 }
 
-impl PackedQueue {
-    /// An empty queue, with the greatest `msg_qbytes`. It takes no memory.
-    pub(crate) fn new(alloc: Global) -> PackedQueue
-        ensures { result ≡ empty_queue }
-    {
-        PackedQueue {
-            messages: Tail::new(alloc),
-            count: 0,
-            size: 0,
-            qbytes: MAX_BYTES,
-            last_sender: Pid(0),
-            last_receiver: Pid(0),
-        }
+/// So many messages, which are all of the bytes but the last one, the 0 of no waiters; and how many bytes their texts
+/// have. None: the bytes are others.
+fn messages_of(alloc: Global, count: u16, bytes: &[u8]) -> Result<Option<(Tail, usize)>, Memory>
+    requires { count ≤ 1024 }
+    ensures { IfOk result (λ found. IfSome found (λ x. HasTaken count x.1 bytes.now x.0)) }
+{
+    let Some((size, waiters)) = pass_messages(count, bytes) else {
+        return Ok(None);
+    };
+    if size > MAX_BYTES as usize || !are_none(waiters) {
+        return Ok(None);
     }
+    let (messages, _) = bytes.split_at(bytes.len() - 1);
+    let messages = Tail::from_slice(alloc, messages)?;
+    Ok(Some((messages, size)))
+}
 
+impl PackedQueue {
     /// What the queue takes its memory from.
     pub(crate) fn allocator(&self) -> Global {
         self.messages.allocator()
@@ -79,15 +82,11 @@ impl PackedQueue {
         let Some((count, rest)) = u16_upto(MAX_MESSAGES as u16, rest) else {
             return Ok(None);
         };
-        let Some((size, waiters)) = pass_messages(count, rest) else {
+        let Some((messages, size)) = messages_of(alloc, count, rest)? else {
             return Ok(None);
         };
-        if size > MAX_BYTES as usize || !are_none(waiters) {
-            return Ok(None);
-        }
-        let (messages, _) = rest.split_at(rest.len() - 1);
         Ok(Some(PackedQueue {
-            messages: Tail::from_slice(alloc, messages)?,
+            messages,
             count: u32::from(count),
             size,
             qbytes,
@@ -173,9 +172,9 @@ impl PackedQueue {
         if !self.has_room(text.len()) {
             return Err(SendFault::No(Errno::Eagain));
         }
-        if self.messages.push(class, text.as_slice()).is_err() {
+        let Ok(()) = self.messages.push(class, text.as_slice()) else {
             return Err(SendFault::Memory(text));
-        }
+        };
         self.count += 1;
         self.size += text.len();
         self.last_sender = pid;

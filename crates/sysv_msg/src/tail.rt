@@ -1,5 +1,5 @@
 //! Bytes that are taken from the front, and put at the end.
-ghost use Rattle.std.specs.Prelude.{◌≡◌, ◌≤◌, ◌-◌, ◌+◌, ◌++◌, drop, length, OnOk, IfOk, vec_capacity, vec_len};
+ghost use Rattle.std.specs.Prelude.{◌≡◌, ◌≤◌, ◌-◌, ◌+◌, ◌++◌, ◌∷◌, [], drop, length, OnErr, OnOk, IfOk, vec_capacity, vec_len};
 ghost use Rattle.sysv_msg.specs.Body.{message_field};
 
 use pico_base::Memory;
@@ -36,19 +36,8 @@ fn push_reserved(out: &mut Vec<u8>, class: i32, text: &[u8])
 }
 
 impl Tail {
-    /// No bytes. It takes no memory.
-    pub(crate) fn new(alloc: Global) -> Tail
-        ensures { result ≡ [] }
-    {
-        Tail {
-            bytes: Vec::new(alloc),
-            from: 0,
-        }
-    }
-
     /// A copy of these bytes, with some room for more.
     pub(crate) fn from_slice(alloc: Global, bytes: &[u8]) -> Result<Tail, Memory>
-        requires { length bytes.now ≤ 32768 }
         ensures { IfOk result (λ tail. tail ≡ bytes.now) }
     {
         let mut copy = Vec::with_capacity(alloc, bytes.len() + bytes.len() / 4 + 64)?;
