@@ -1,5 +1,5 @@
 -- Messages that stay as they are spelled: what is read of them, and that it stays so where one is added or taken.
-use Rattle.std.proofs.Common.{SFits, w32, of_z, to_z, nat_eq, Bool, false, Ok, Err, take, ◌≡◌, ◌∙◌, ℕ, zero, suc, true, ◌+◌, ◌-◌, ◌≤◌, ◌<◌, ℤ, pos, negsuc, ◌≤ℤ◌, List, [], ◌∷◌, ◌++◌, length, drop, Option, Some, None, refl, sym, ap, subst, append_assoc, arith}
+use Rattle.std.proofs.Common.{SFits, w32, of_z, to_z, nat_eq, Bool, false, Ok, Err, take, ◌≡◌, ◌∙◌, ℕ, zero, suc, true, ◌+◌, ◌-◌, ◌≤◌, ◌<◌, ℤ, pos, negsuc, ◌≤ℤ◌, List, [], ◌∷◌, ◌++◌, length, drop, Option, Some, None, refl, sym, ap, subst, arith}
 use Rattle.std.specs.Bool.{OnTrue}
 use Rattle.std.specs.Int.{w16}
 use Rattle.std.specs.List.{AllByRecursion, flat_map}

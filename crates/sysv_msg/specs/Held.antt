@@ -1,10 +1,6 @@
 -- A queue as a node holds it: with a list for each text, or packed as it came. And why nothing was received.
-use Rattle.std.specs.Prelude.{◌≡◌, Result, Err}
-use Rattle.pico_base.specs.declared.reply.Errno.{Errno}
-use Rattle.kernel_model.specs.Queue.{Queue, Received}
+use Rattle.kernel_model.specs.Queue.{Queue}
 use Rattle.waiting_model.specs.Waiters.{Awaited, unawaited}
-use Rattle.sysv_msg.specs.declared.fault.ReceiveFault.{ReceiveFault}
-use Rattle.sysv_msg.specs.declared.fault.ReceiveFault.TheVariants as faults
 use Rattle.sysv_msg.specs.declared.held.Form.{Form}
 use Rattle.sysv_msg.specs.declared.held.Form.TheVariants.{Linked, Packed}
 

@@ -1,4 +1,4 @@
-use Rattle.std.proofs.Common.{◌≡◌, ◌∙◌, arith}
+use Rattle.std.proofs.Common.{◌∙◌, arith}
 use Rattle.sysv_msg.proofs.PackedMessages.{has-taken, one-behind}
 use Rattle.sysv_msg.proofs.packed.messages_of.Goals as goal
 

@@ -1,4 +1,3 @@
-use Rattle.std.specs.Prelude.{Some}
 use Rattle.waiting_model.specs.Waiters.{unawaited}
 use Rattle.sysv_msg.specs.Body.{IsBodyOf}
 use Rattle.sysv_msg.proofs.PackedMessages.{one-body}

@@ -1,9 +1,9 @@
-use Rattle.std.proofs.Common.{◌≡◌, ◌∙◌, ◌-◌, ℕ, ℤ, List, length, Some, None, SFits, w32, of_z, to_z, take, rules, sym, ap, subst}
+use Rattle.std.proofs.Common.{◌≡◌, ◌∙◌, ◌-◌, ℕ, List, length, Some, None, SFits, w32, of_z, to_z, take, rules, sym, ap, subst}
 use Rattle.std.proofs.lemmas.Int.{to_z-of_z}
 use Rattle.kernel_model.specs.Queue.{Message, Queue, select}
 use Rattle.sysv_msg.specs.Packed.{Holds, front_of, messages_in}
 use Rattle.sysv_msg.specs.Reading.{message_at, message_of, queue_of}
-use Rattle.sysv_msg.proofs.PackedMessages.{Front, front-there, holds-read, messages-are, none-there, receives-first, receives-long, receives-none}
+use Rattle.sysv_msg.proofs.PackedMessages.{front-there, holds-read, messages-are, none-there, receives-first, receives-long, receives-none}
 use Rattle.sysv_msg.proofs.packed.PackedQueue.receive.Goals as goal
 
 pub returns-in_default-clause-refused : goal.returns-in_default-clause-refused

@@ -1,10 +1,9 @@
-use Rattle.std.proofs.Common.{◌≡◌, ◌∙◌, ◌+◌, ◌<◌, ◌≤◌, ◌++◌, ◌∷◌, [], ℕ, ℤ, pos, ◌≤ℤ◌, List, length, SFits, w32, to_z, of_z, true, rules, sym, ap, subst, arith}
-use Rattle.std.specs.Prelude.{◌&&◌, nat_le, nat_lt}
-use Rattle.std.proofs.lemmas.Int.{ints, to_z-of_z}
+use Rattle.std.proofs.Common.{◌≡◌, ◌∙◌, ◌+◌, ◌≤◌, ◌++◌, ◌∷◌, [], ℕ, pos, ◌≤ℤ◌, List, length, SFits, w32, true, rules, sym, ap, subst, arith}
+use Rattle.std.proofs.lemmas.Int.{to_z-of_z}
 use Rattle.kernel_model.specs.Queue.{Message, Queue, bytes_of, has_room, max_text}
 use Rattle.sysv_msg.specs.Body.{message_field}
 use Rattle.sysv_msg.specs.Limits.{IsSendable}
-use Rattle.sysv_msg.specs.Packed.{Holds, messages_in}
+use Rattle.sysv_msg.specs.Packed.{messages_in}
 use Rattle.sysv_msg.specs.Reading.{message_of, queue_of}
 use Rattle.sysv_msg.proofs.PackedMessages.{holds-more, holds-read, is-positive, messages-are, room-there, sends}
 use Rattle.sysv_msg.proofs.packed.PackedQueue.send.Goals as goal
