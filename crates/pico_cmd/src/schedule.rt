@@ -60,6 +60,7 @@ impl Schedule {
     }
 
     /// The event that comes next, and the schedule after it; none where no event is enabled. A number is drawn once.
+    #[inline(always)]
     pub fn choice(&self, world: &StreamingWorld) -> Option<(Event, Schedule)>
         requires whole { IsSome world.now }
         requires within { IfSome world.now (λ w. IsWithin (size w) (schedule_in self.now)) }

@@ -104,6 +104,7 @@ pub fn tell_all(telling: &mut Telling, world: &mut StreamingWorld) -> Result<(),
 }
 
 /// Tells what the world keeps where that is much.
+#[inline(always)]
 pub fn tell_if_much(telling: &mut Telling, world: &mut StreamingWorld) -> Result<(), Memory>
     requires { IsSome world.old }
     ensures told { (whole : MachineWorld) → MakeUp whole telling.old world.old

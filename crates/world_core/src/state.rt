@@ -193,7 +193,7 @@ fn send_list(
 
 /// As above, where there are frames. One alone, as most turns make, goes with the whole list where nothing is on its
 /// way there.
-#[inline(never)]
+#[inline(always)]
 fn send_some(
     nodes: &[PicoNode],
     inboxes: &mut Vec<Inbox>,
@@ -432,6 +432,7 @@ impl State {
     }
 
     /// The node takes a frame: the entries follow in the journal, and the frames go their ways.
+    #[inline(always)]
     fn take(&mut self, node: Node, from: Node, frame: Frame) -> Result<(), Memory>
         requires seats { AreSeats self.old.nodes.items self.old.inboxes.items }
         requires sound { IsSoundScript self.old.script }
