@@ -126,6 +126,7 @@ impl Directory {
 
     /// Where a call on the name goes. Range comes exactly where the name isn't known and its number is in a range of a
     /// node other than node 1 that stays, and Nobody exactly where it isn't known and that is not so.
+    #[inline(always)]
     pub fn route(&self, name: Name) -> Route
         ensures { result ≡ route self.now name }
     {

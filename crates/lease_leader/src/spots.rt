@@ -75,6 +75,7 @@ impl Spots {
     }
 
     /// The spot of the name, where that is known.
+    #[inline(always)]
     pub(crate) fn get(&self, name: &Name) -> Option<&Spot>
         ensures { option_copied result ≡ get_named self.now name.now }
     {

@@ -152,6 +152,7 @@ impl Growing {
 
     /// The reply to the call of this caller under this ticket goes to the caller, or ends the call at once where the
     /// caller is this node. Memory, too, where the call's line isn't there.
+    #[inline(always)]
     fn reply_at(
         &mut self,
         script: &Script,

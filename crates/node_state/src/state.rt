@@ -243,6 +243,7 @@ impl State {
     }
 
     /// Whether the name's deed is held here.
+    #[inline(always)]
     pub fn holds(&self, name: Name) -> bool
         ensures { result ≡ holds (node_of self.now) name }
     {

@@ -70,6 +70,7 @@ pub enum Reply {
 
 impl Reply {
     /// An equal reply.
+    #[inline(always)]
     pub fn try_copy(&self, alloc: Global) -> Result<Reply, Memory>
         ensures { IfOk result (λ copy. copy ≡ self.now) }
     {

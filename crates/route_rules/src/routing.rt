@@ -19,6 +19,7 @@ use rpc_frame::{Asked, Frame};
 use serve_rules::{serve_asked, serve_nobody, withdraw_here};
 
 /// A call on a name goes to the node where the name is, or the node that was given its number.
+#[inline(always)]
 fn forward(step: &mut Growing, to: Node, asked: Asked) -> Result<(), Memory>
     ensures { OnOk result (step_of step.new ≡ forward (step_of step.old) to asked) }
 {
@@ -67,6 +68,7 @@ fn route_at(
 }
 
 /// A call on a name, by where it goes.
+#[inline(always)]
 fn route_by(
     step: &mut Growing,
     script: &Script,
@@ -156,6 +158,7 @@ fn may_route_by(node: &State, name: &Name) -> bool
 }
 
 /// Whether the leader can route a call of this process, whoever asks for it.
+#[inline(always)]
 pub fn may_route(step: &Growing, pid: Pid, call: &Call) -> bool
     ensures { (script : Scripted) (caller ticket : ℕ) → result ≡ false
         → route_call script (step_of step.now) (asked_by caller ticket pid call.now) ≡ None }
