@@ -144,6 +144,7 @@ fn parcel_len(parcel: &Parcel) -> usize
 }
 
 /// What stands behind the frame's length: the code of its kind and the kind's fields.
+#[inline(always)]
 pub(crate) fn body_len(frame: &Frame) -> usize
     requires { IsTrue (has_fields frame.now) }
     ensures { result ≡ length (frame_body frame.now) }

@@ -170,6 +170,7 @@ fn is_asking(ticket: u32, call: &Call) -> bool
 }
 
 /// Whether the values of the fields are those that have a spelling.
+#[inline(always)]
 fn has_fields(frame: &Frame) -> bool
     ensures { result ≡ has_fields frame.now }
 {

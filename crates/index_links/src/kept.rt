@@ -121,6 +121,7 @@ fn add_to_class<T>(places: &mut [Place<T>], rows: &mut Table<Link>, key: u32, at
 const MORE_ROWS: usize = 64;
 
 /// Writes the row of a class. Where it leads nowhere it is taken out if there are many rows for so many nodes.
+#[inline(always)]
 fn write_row(rows: &mut Table<Link>, key: u32, row: Link, len: u32)
     requires { IsSome (get rows.old.entries key) }
     ensures rows { (q : ℕ) → row_at rows.new.entries q

@@ -80,7 +80,7 @@ fn request(
 }
 
 /// The call is under way, and the leader routes it, or is asked to.
-#[inline(never)]
+#[inline(always)]
 pub(crate) fn start_ask(step: &mut Growing, script: &Script, call: Call) -> Result<(), Memory>
     requires sound { IsSoundScript script.now }
     requires can_start { IsTrue (can_start (node_of step.old.node)) }
@@ -91,7 +91,7 @@ pub(crate) fn start_ask(step: &mut Growing, script: &Script, call: Call) -> Resu
 }
 
 /// The call is under way, and the owner of its name is asked, which the cache may know.
-#[inline(never)]
+#[inline(always)]
 fn start_request(step: &mut Growing, script: &Script, call: Call, name: &Name) -> Result<(), Memory>
     requires sound { IsSoundScript script.now }
     requires can_start { IsTrue (can_start (node_of step.old.node)) }
