@@ -226,7 +226,7 @@ fn on_body(
 /// A send, a receive or a semop has its reply at once where its queue or set is held, nobody waits there, and it
 /// needn't wait. None: it is another call, or on another name, or may have to wait; nothing has changed. Where memory
 /// is refused nothing is said of what is left.
-#[inline(never)]
+#[inline(always)]
 pub fn reply_at_once(
     alloc: Global,
     deeds: &mut Deeds<Body>,

@@ -8,6 +8,7 @@ use std::alloc::Global;
 use waiting_model::{Applied, Waiting, Wakes};
 
 /// The caller as it would wait, with a copy of its call.
+#[inline(always)]
 pub(crate) fn waiting_with(alloc: Global, who: &Who, call: &Call) -> Result<Waiting, Memory>
     ensures { IfOk result (λ waiting. waiting ≡ waiting_with who.now call.now) }
 {

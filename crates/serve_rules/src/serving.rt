@@ -58,7 +58,7 @@ pub(crate) fn who_starts(node: &State) -> Who
 }
 
 /// The serve rule, by all that may come of it.
-#[inline(never)]
+#[inline(always)]
 fn serve_any(step: &mut Growing, script: &Script, name: Name, asked: Asked) -> Result<(), Memory>
     requires sound { IsSoundScript script.now }
     ensures { OnOk result (serve_asked script.now (step_of step.old) name asked ≡ Some (step_of step.new)) }
@@ -136,7 +136,7 @@ pub fn serve_asked(
 
 /// A call of the node's own process that is started has come to this, where it has to wait or wakes others: it is under
 /// way until its reply is here.
-#[inline(never)]
+#[inline(always)]
 pub(crate) fn wait_or_wake(
     step: &mut Growing,
     script: &Script,
@@ -155,7 +155,7 @@ pub(crate) fn wait_or_wake(
 }
 
 /// A call of the node's own process is started and served, by all that may come of it.
-#[inline(never)]
+#[inline(always)]
 fn start_any(step: &mut Growing, script: &Script, name: Name, call: Call) -> Result<(), Memory>
     requires sound { IsSoundScript script.now }
     requires can_start { IsTrue (can_start (node_of step.old.node)) }

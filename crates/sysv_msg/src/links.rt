@@ -45,6 +45,7 @@ fn slot_of(links: &Links<Bytes>, class: i32) -> Option<Slot>
 }
 
 /// The slot of the message that a receive of this type asks for. It takes no memory, and doesn't walk over messages.
+#[inline(always)]
 pub(crate) fn selected(links: &Links<Bytes>, class: i32) -> Option<Slot>
     requires { AllByRecursion IsSendable (messages_of links.now.nodes) }
     ensures { MatchOption result (select (messages_of links.now.nodes) class ≡ None)

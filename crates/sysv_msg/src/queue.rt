@@ -127,6 +127,7 @@ impl Queue {
     /// `msgsnd` with IPC_NOWAIT, where nobody waits: the message goes last, and its sender is the last sender. EINVAL:
     /// the type is below 1, or the text above 4,096 bytes (profile). EAGAIN: with the text there would be more bytes
     /// than `msg_qbytes`, or 1,024 messages are there (profile). A refusal changes nothing.
+    #[inline(always)]
     pub fn send(&mut self, pid: Pid, class: i32, text: Bytes) -> Result<(), SendFault>
         requires { self.old.waiters ≡ [] }
         ensures sent { IfOk result (λ _. definition.send self.old.state pid class text ≡ Ok self.new.state) }
@@ -140,6 +141,7 @@ impl Queue {
     /// `msgrcv` with IPC_NOWAIT, where nobody waits: the message that the type asks for is taken and its text cut to
     /// `size` bytes, and its receiver is the last receiver. ENOMSG: there is no such message. E2BIG: its text is above
     /// `size` bytes and `noerror` (MSG_NOERROR) isn't set. A refusal changes nothing. It takes no memory.
+    #[inline(always)]
     pub fn receive(
         &mut self,
         pid: Pid,

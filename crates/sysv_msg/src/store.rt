@@ -192,6 +192,7 @@ impl Store {
     }
 
     /// msgrcv: ENOMSG where no message is selected, E2BIG for a text above the size asked. It takes no memory.
+    #[inline(always)]
     pub(crate) fn receive(
         &mut self,
         pid: Pid,
@@ -255,6 +256,7 @@ impl Store {
     }
 
     /// Carries out a call that needn't wait, where there is memory for one message more.
+    #[inline(always)]
     pub(crate) fn perform(&mut self, pid: Pid, call: Call) -> Reply
         requires goes { is_some (try_queue self.old.queue pid call) ≡ true }
         requires room { 1 ≤ self.old.room }
