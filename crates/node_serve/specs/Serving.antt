@@ -1,6 +1,6 @@
 -- What it is to serve a call on the deeds that a node holds.
 use Rattle.std.specs.Prelude.{◌≡◌, ℕ, Bool, true, false, not, ◌&&◌, ◌||◌, nat_eq, nat_lt, List, [], ◌++◌, length, map, Option, Some, None, IsTrue}
-use Rattle.std.specs.List.{filter, list_any}
+use Rattle.std.specs.List.{filter, list_any, AllByRecursion}
 use Rattle.std.specs.Option.{option_map, option_map_or}
 use Rattle.pico_base.specs.declared.call.Call.{Call}
 use Rattle.pico_base.specs.declared.numbers.Name.{Name}
@@ -67,12 +67,12 @@ gives_number reply = false
 
 -- the call of one who is woken has read: a receive that is given a message, or a `semop` that takes from a semaphore
 abbrev pub reads_among : Readers → Wake → Bool
-reads_among (OfMessages pids) w = list_any (λ pid. nat_eq pid w.pid) pids.items && gives_message w.reply
+reads_among OfMessages w = gives_message w.reply
 reads_among (OfSemaphores pids) w = list_any (λ pid. nat_eq pid w.pid) pids.items && gives_number w.reply
 
--- this is said of those who wait at the body
-abbrev pub SayWhoReads : model.Body → Readers → Type 0
-SayWhoReads body readers = (w : Wake) → reads_among readers w ≡ woken_reads (waiters_of body) w
+-- this is said of those who are woken at the body
+abbrev pub SayWhoReads : model.Body → Readers → List Wake → Type 0
+SayWhoReads body readers wakes = AllByRecursion (λ w. reads_among readers w ≡ woken_reads (waiters_of body) w) wakes
 
 -- ---- a call on a body
 
@@ -86,7 +86,7 @@ pub record IsDone (name : Name) (old : Body) (who : Waiting) (new : Body) (own :
   pub admitted : admits (body_of old) who ≡ true
   pub does : on_whole name (body_of old) who ≡ record { left = body_of new; own = own; wakes = wakes }
   pub read : reads ≡ has_read_if who.call own
-  pub woken : SayWhoReads (body_of old) readers
+  pub woken : SayWhoReads (body_of old) readers wakes
 
 abbrev pub ComesTo : Name → Body → Waiting → Body → Served → Type 0
 ComesTo name old who new (Did own wakes reads readers) = IsDone name old who new own wakes reads readers

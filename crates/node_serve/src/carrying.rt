@@ -1,8 +1,16 @@
 //! A call is carried out on a body.
-ghost use Rattle.std.specs.Prelude.{◌≡◌, IfOk, IsTrue, OnErr};
+ghost use Rattle.std.specs.Prelude.{◌≡◌, ◌<◌, [], Some, false, length, IfOk, IsTrue, OnErr};
+ghost use Rattle.pico_base.specs.declared.reply.Errno.TheVariants.{Einval};
+ghost use Rattle.pico_base.specs.declared.reply.Reply.TheVariants.{Fail, Num};
+ghost use Rattle.waiting_model.specs.Queue.{carry_out_on_queue};
+ghost use Rattle.waiting_model.specs.SemaphoreSet.{carry_out_on_set};
+ghost use Rattle.waiting_model.specs.Waiters.{waits_here};
+ghost use Rattle.sysv_sem.specs.Calls.{carried_to};
 ghost use Rattle.node_model.specs.Awaiting.{on_whole};
+ghost use Rattle.node_model.specs.Bodies.{AQueue, ASet};
 ghost use Rattle.node_model.specs.Carrying.{is_own, is_removal};
 ghost use Rattle.node_model.specs.Serving.{admits, has_read_if, takes_away};
+ghost use Rattle.node_serve.specs.declared.serving.Readers.TheVariants.{OfMessages};
 ghost use Rattle.node_serve.specs.Bodies.{body_of};
 ghost use Rattle.node_serve.specs.Callers.{waiting_with};
 ghost use Rattle.node_serve.specs.Serving.{ComesTo, SayWhoReads, has_room};
@@ -16,8 +24,10 @@ use crate::waiting::{alone, at_once};
 use crate::{Body, Readers, Served, Who};
 use pico_base::{Call, Errno, Home, Memory, Name, Pid, Reply, SemStep, home};
 use std::alloc::Global;
+use sysv_msg::Queue;
+use sysv_sem::SemSet;
 use waiter_fields::MAX_WAITERS;
-use waiting_model::Applied;
+use waiting_model::{Applied, Wakes};
 
 /// Whether the call is the caller's own affair.
 fn is_own(caller: Pid, call: &Call) -> bool
@@ -51,21 +61,12 @@ fn admits(body: &Body, who: &Who, call: &Call) -> bool
     is_removal(call) || has_room(body, who.pid)
 }
 
-/// Which of those who wait at the body read once they go on.
-fn who_reads(alloc: Global, body: &Body) -> Result<Readers, Memory>
-    ensures { IfOk result (SayWhoReads (body_of body.now)) }
-{
-    match body {
-        Body::Queue(queue) => {
-            queue.is_at_rest();
-            Ok(Readers::OfMessages(queue.receivers()?))
-        }
-        Body::Set(set) => {
-            set.is_at_rest();
-            Ok(Readers::OfSemaphores(set.takers()?))
-        }
-        _ => Ok(Readers::OfMessages(Vec::new(alloc))),
-    }
+/// What a call on a body came to: the caller's own reply, none where it has to wait, whom it wakes, and which of them
+/// have read.
+#[derive(Drop)]
+struct Came {
+    applied: Applied,
+    readers: Readers,
 }
 
 /// Whether an operation takes from its semaphore.
@@ -100,6 +101,76 @@ fn on_process(body: &mut Body, pid: Pid, who: &Who, call: &Call) -> Option<Reply
     }
 }
 
+/// A call on the body of a process. If its caller has to wait it has no reply, and nobody is woken.
+fn on_process_body(alloc: Global, body: &mut Body, pid: Pid, who: &Who, call: &Call) -> Came
+    ensures ok { on_whole (Name.Proc pid) (body_of body.old) (waiting_with who.now call.now)
+        ≡ coming (body_of body.new) result.applied }
+    ensures readers { SayWhoReads (body_of body.old) result.readers result.applied.wakes }
+{
+    Came {
+        applied: alone(alloc, on_process(body, pid, who, call)),
+        readers: Readers::OfMessages,
+    }
+}
+
+/// A call on a queue. A refusal for want of memory changes nothing.
+fn on_a_queue(alloc: Global, queue: &mut Queue, who: &Who, call: &Call) -> Result<Came, Memory>
+    requires own { waits_here who.now.pid queue.old ≡ false }
+    requires few { length queue.old.waiters < 32 }
+    ensures ok { IfOk result (λ came.
+        carry_out_on_queue queue.old (waiting_with who.now call.now) ≡ carried_to queue.new came.applied) }
+    ensures readers { IfOk result (λ came. SayWhoReads (AQueue queue.old) came.readers came.applied.wakes) }
+    ensures err { OnErr result (queue.new ≡ queue.old) }
+{
+    queue.is_at_rest();
+    let applied = on_queue(alloc, queue, who, call)?;
+    Ok(Came {
+        applied,
+        readers: Readers::OfMessages,
+    })
+}
+
+/// A call on a set. A refusal for want of memory changes nothing.
+fn on_a_set(alloc: Global, set: &mut SemSet, who: &Who, call: &Call) -> Result<Came, Memory>
+    requires own { waits_here who.now.pid set.old ≡ false }
+    requires few { length set.old.waiters < 32 }
+    ensures ok { IfOk result (λ came.
+        carry_out_on_set set.old (waiting_with who.now call.now) ≡ carried_to set.new came.applied) }
+    ensures readers { IfOk result (λ came. SayWhoReads (ASet set.old) came.readers came.applied.wakes) }
+    ensures err { OnErr result (set.new ≡ set.old) }
+{
+    set.is_at_rest();
+    let came = on_set(alloc, set, who, call)?;
+    Ok(Came {
+        applied: came.applied,
+        readers: Readers::OfSemaphores(came.takers),
+    })
+}
+
+/// What a removal came to, which tells those who wait that there is nothing to be read.
+fn removed(wakes: Wakes) -> Came
+    ensures applied { result.applied ≡ record { own = Some (Num 0); wakes = wakes } }
+    ensures readers { result.readers ≡ OfMessages }
+{
+    Came {
+        applied: Applied {
+            own: Some(Reply::Num(0)),
+            wakes,
+        },
+        readers: Readers::OfMessages,
+    }
+}
+
+/// A call on what isn't there any more.
+fn not_there(alloc: Global) -> Came
+    ensures { result.applied ≡ record { own = Some (Fail Einval); wakes = [] } }
+{
+    Came {
+        applied: at_once(alloc, Reply::Fail(Errno::Einval)),
+        readers: Readers::OfMessages,
+    }
+}
+
 /// A call on the body of a queue. A refusal for want of memory changes nothing.
 fn on_queue_body(
     alloc: Global,
@@ -107,24 +178,22 @@ fn on_queue_body(
     id: u32,
     who: &Who,
     call: &Call,
-) -> Result<Applied, Memory>
+) -> Result<Came, Memory>
     requires { IsTrue (admits (body_of body.old) (waiting_with who.now call.now)) }
-    ensures ok { IfOk result (λ applied.
+    ensures ok { IfOk result (λ came.
         on_whole (Name.Msg id) (body_of body.old) (waiting_with who.now call.now)
-        ≡ coming (body_of body.new) applied) }
+        ≡ coming (body_of body.new) came.applied) }
+    ensures readers { IfOk result (λ came. SayWhoReads (body_of body.old) came.readers came.applied.wakes) }
     ensures err { OnErr result (body.new ≡ body.old) }
 {
     match body {
         Body::Queue(queue) if is_removal(call) => {
             let wakes = queue.remove()?;
             *body = Body::Removed;
-            Ok(Applied {
-                own: Some(Reply::Num(0)),
-                wakes,
-            })
+            Ok(removed(wakes))
         }
-        Body::Queue(queue) => on_queue(alloc, queue, who, call),
-        _ => Ok(at_once(alloc, Reply::Fail(Errno::Einval))),
+        Body::Queue(queue) => on_a_queue(alloc, queue, who, call),
+        _ => Ok(not_there(alloc)),
     }
 }
 
@@ -135,24 +204,22 @@ fn on_set_body(
     id: u32,
     who: &Who,
     call: &Call,
-) -> Result<Applied, Memory>
+) -> Result<Came, Memory>
     requires { IsTrue (admits (body_of body.old) (waiting_with who.now call.now)) }
-    ensures ok { IfOk result (λ applied.
+    ensures ok { IfOk result (λ came.
         on_whole (Name.Sem id) (body_of body.old) (waiting_with who.now call.now)
-        ≡ coming (body_of body.new) applied) }
+        ≡ coming (body_of body.new) came.applied) }
+    ensures readers { IfOk result (λ came. SayWhoReads (body_of body.old) came.readers came.applied.wakes) }
     ensures err { OnErr result (body.new ≡ body.old) }
 {
     match body {
         Body::Set(set) if is_removal(call) => {
             let wakes = set.remove()?;
             *body = Body::Removed;
-            Ok(Applied {
-                own: Some(Reply::Num(0)),
-                wakes,
-            })
+            Ok(removed(wakes))
         }
-        Body::Set(set) => on_set(alloc, set, who, call),
-        _ => Ok(at_once(alloc, Reply::Fail(Errno::Einval))),
+        Body::Set(set) => on_a_set(alloc, set, who, call),
+        _ => Ok(not_there(alloc)),
     }
 }
 
@@ -163,14 +230,15 @@ fn on_whole(
     name: Name,
     who: &Who,
     call: &Call,
-) -> Result<Applied, Memory>
+) -> Result<Came, Memory>
     requires { IsTrue (admits (body_of body.old) (waiting_with who.now call.now)) }
-    ensures ok { IfOk result (λ applied.
-        on_whole name (body_of body.old) (waiting_with who.now call.now) ≡ coming (body_of body.new) applied) }
+    ensures ok { IfOk result (λ came.
+        on_whole name (body_of body.old) (waiting_with who.now call.now) ≡ coming (body_of body.new) came.applied) }
+    ensures readers { IfOk result (λ came. SayWhoReads (body_of body.old) came.readers came.applied.wakes) }
     ensures err { OnErr result (body.new ≡ body.old) }
 {
     match name {
-        Name::Proc(pid) => Ok(alone(alloc, on_process(body, pid, who, call))),
+        Name::Proc(pid) => Ok(on_process_body(alloc, body, pid, who, call)),
         Name::Msg(id) => on_queue_body(alloc, body, id.0, who, call),
         Name::Sem(id) => on_set_body(alloc, body, id.0, who, call),
     }
@@ -191,8 +259,8 @@ pub(crate) fn on_body(
     if !admits(body, who, call) {
         return Ok(Served::NotAdmitted);
     }
-    let readers = who_reads(alloc, body)?;
-    let Applied { own, wakes } = on_whole(alloc, body, name, who, call)?;
+    let Came { applied, readers } = on_whole(alloc, body, name, who, call)?;
+    let Applied { own, wakes } = applied;
     let reads = has_read(call, &own);
     Ok(Served::Did {
         own,

@@ -13,11 +13,11 @@ use pico_base::{Call, Home, Memory, Name, Pid, Reply, home};
 use std::alloc::Global;
 use waiting_model::{Wake, Wakes};
 
-/// Which of those who waited read once they go on, by their processes: those in a receive, which read where they are
-/// given a message, or those in a `semop` that takes from a semaphore.
+/// Which of those who are woken have read: those who are given a message, or those of these processes, each in a
+/// `semop` that takes from a semaphore, where it was carried out.
 #[derive(Debug, Drop)]
 pub enum Readers {
-    OfMessages(Vec<Pid>),
+    OfMessages,
     OfSemaphores(Vec<Pid>),
 }
 
@@ -48,8 +48,7 @@ impl Readers {
         ensures { result ≡ reads_among self.now wake.now }
     {
         match self {
-            Readers::OfMessages(pids) => is_among(pids.as_slice(), wake.pid)
-                && gives_message(&wake.reply),
+            Readers::OfMessages => gives_message(&wake.reply),
             Readers::OfSemaphores(pids) => is_among(pids.as_slice(), wake.pid)
                 && gives_number(&wake.reply),
         }

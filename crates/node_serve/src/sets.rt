@@ -6,17 +6,18 @@ ghost use Rattle.kernel_model.specs.Waiting.{may_wait};
 ghost use Rattle.waiting_model.specs.Calls.{may_park};
 ghost use Rattle.waiting_model.specs.SemaphoreSet.{carry_out_on_set};
 ghost use Rattle.waiting_model.specs.Waiters.{waits_here};
+ghost use Rattle.sysv_sem.specs.Asking.{NotesTakers};
 ghost use Rattle.sysv_sem.specs.Calls.{carried_to, is_on_set};
+ghost use Rattle.sysv_sem.specs.Waiters.{takers};
 ghost use Rattle.node_model.specs.Carrying.{change, done, look, on_set};
 ghost use Rattle.node_serve.specs.Callers.{waiting_with};
 
 use crate::Who;
-use crate::waiting::{at_once, waiting_with};
+use crate::waiting::at_once;
 use node_calls::may_park;
 use pico_base::{Call, Errno, Memory, Pid, Reply, SemStep};
 use std::alloc::Global;
-use sysv_sem::SemSet;
-use waiting_model::Applied;
+use sysv_sem::{Asker, Came, SemSet};
 
 /// semop, where nobody waits and no operation may wait: E2BIG, EFBIG, EAGAIN or ERANGE.
 fn operate(set: &mut SemSet, pid: Pid, steps: &[SemStep]) -> Reply
@@ -121,41 +122,46 @@ fn is_on_set(call: &Call) -> bool
 /// A call that may have to wait, or that may wake others or count them. Memory, too, for a call of another kind, and
 /// for a ticket 0.
 #[inline(never)]
-fn park_or_wake(alloc: Global, set: &mut SemSet, who: &Who, call: &Call) -> Result<Applied, Memory>
+fn park_or_wake(set: &mut SemSet, who: &Who, call: &Call) -> Result<Came, Memory>
     requires own { waits_here who.now.pid set.old ≡ false }
     requires few { length set.old.waiters < 32 }
-    ensures ok { IfOk result (λ applied.
-        carry_out_on_set set.old (waiting_with who.now call.now) ≡ carried_to set.new applied) }
+    ensures ok { IfOk result (λ came.
+        carry_out_on_set set.old (waiting_with who.now call.now) ≡ carried_to set.new came.applied) }
+    ensures takers { IfOk result (λ came. NotesTakers came.applied.wakes came.takers.items (takers set.old.waiters)) }
     ensures err { OnErr result (set.new ≡ set.old) }
 {
     if who.ticket == 0 || !is_on_set(call) {
         return Err(Memory);
     }
-    let waiting = waiting_with(alloc, who, call)?;
-    match set.apply(waiting) {
-        Ok(applied) => Ok(applied),
-        Err(_) => Err(Memory),
-    }
+    let asker = Asker {
+        caller: who.caller,
+        ticket: who.ticket,
+        pid: who.pid,
+    };
+    set.apply(&asker, call)
 }
 
 /// A call on a set that is there, other than its removal. Where it can't park and nobody waits it is carried out as it
-/// stands; else it is copied, with its caller. A refusal for want of memory changes nothing. Memory, too, for a call of
-/// another kind, and for a ticket 0.
+/// stands. A refusal for want of memory changes nothing. Memory, too, for a call of another kind, and for a ticket 0.
 pub(crate) fn on_set(
     alloc: Global,
     set: &mut SemSet,
     who: &Who,
     call: &Call,
-) -> Result<Applied, Memory>
+) -> Result<Came, Memory>
     requires own { waits_here who.now.pid set.old ≡ false }
     requires few { length set.old.waiters < 32 }
-    ensures ok { IfOk result (λ applied.
-        carry_out_on_set set.old (waiting_with who.now call.now) ≡ carried_to set.new applied) }
+    ensures ok { IfOk result (λ came.
+        carry_out_on_set set.old (waiting_with who.now call.now) ≡ carried_to set.new came.applied) }
+    ensures takers { IfOk result (λ came. NotesTakers came.applied.wakes came.takers.items (takers set.old.waiters)) }
     ensures err { OnErr result (set.new ≡ set.old) }
 {
     if set.waiting() > 0 || may_park(call) {
-        return park_or_wake(alloc, set, who, call);
+        return park_or_wake(set, who, call);
     }
     let reply = carry_out(set, who.pid, call)?;
-    Ok(at_once(alloc, reply))
+    Ok(Came {
+        applied: at_once(alloc, reply),
+        takers: Vec::new(alloc),
+    })
 }

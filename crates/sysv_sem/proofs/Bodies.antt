@@ -1,32 +1,29 @@
 -- Bodies that are read are those that were written, and what was written is read again.
-use Rattle.std.proofs.Common.{◌≡◌, ℕ, zero, suc, ◌+◌, ◌<◌, ◌≤◌, ◌^◌, Bool, true, false, not, ◌&&◌, cond, eqb, nat_eq, nat_le, List, [], ◌∷◌, ◌++◌, length, Option, Some, None, is_some, refl, sym, ap, subst, ◌∙◌, append_assoc, arith}
-use Rattle.std.specs.List.{flat_map, list_all, list_any, AllByRecursion}
-use Rattle.std.specs.Int.{w16, w32, to_be_bytes}
-use Rattle.std.proofs.lemmas.Bool.{eqb-true, leb-true, and_parts, and_from, false≢true, or_parts, ltb-false}
+use Rattle.std.proofs.Common.{◌≡◌, ℕ, zero, suc, ◌<◌, ◌≤◌, ◌^◌, Bool, true, false, not, eqb, nat_eq, nat_le, List, [], ◌∷◌, ◌++◌, length, Option, Some, None, is_some, refl, sym, ap, subst, ◌∙◌, append_assoc, arith}
+use Rattle.std.specs.List.{list_all, list_any, AllByRecursion}
+use Rattle.std.specs.Int.{w16, to_be_bytes}
+use Rattle.std.proofs.lemmas.Bool.{eqb-true, leb-true, and_parts, and_from, false≢true, or_parts}
 use Rattle.std.proofs.lemmas.Bool.Decides.{nat_tests}
 use Rattle.std.proofs.lemmas.List.{append-nil}
 use Rattle.pico_base.specs.declared.call.Call.{Call}
 use Rattle.pico_base.specs.declared.call.Call.TheVariants as calls
 use Rattle.body_fields.specs.Fields.{byte_upto, number_upto, whole}
-use Rattle.body_fields.proofs.Fields.{IsBytes, IsBytes-rest, guard_then, some_is, refused, Takes, Takes-all, wide16, whole_is, number_upto_takes, number_upto_again, byte_upto_takes, byte_upto_again}
-use Rattle.frame_bytes.specs.Fields.{IsWord}
+use Rattle.body_fields.proofs.Fields.{IsBytes, IsBytes-rest, guard_then, some_is, refused, Takes-all, wide16, whole_is, number_upto_takes, number_upto_again, byte_upto_takes, byte_upto_again}
 use Rattle.frame_bytes.specs.Frames.{asked_at, asked_field}
 use Rattle.frame_bytes.specs.Limits.{is_call, is_nonzero}
-use Rattle.frame_bytes.specs.Ranges.{HasAskedRanges}
 use Rattle.pico_base.specs.declared.fault.UnpackFault.{UnpackFault}
 use Rattle.pico_base.specs.declared.fault.UnpackFault.TheVariants.{Memory, NotABody}
-use Rattle.frame_bytes.specs.Readers.{Fails, Reader, byte_at, passing, counted, one, two}
+use Rattle.frame_bytes.specs.Readers.{Fails, byte_at, passing, counted, one, two}
 use Rattle.frame_bytes.proofs.Inverse.{Inverse, Field, Counted, Passes, byte-inverse, passing-inverse, counted-inverse, one-takes, two-takes, one-again, two-again}
 use Rattle.frame_bytes.proofs.FieldLaws.{word-field, whole-inverse}
 use Rattle.frame_bytes.proofs.FrameLaws.{IsAsked, asked-inverse}
 use Rattle.rpc_frame.specs.declared.asked.Asked.{Asked}
-use Rattle.kernel_model.specs.SemaphoreSet.{Semaphore, SemaphoreSet, set_of, is_bad_count, max_operations, max_semaphores, max_value}
+use Rattle.kernel_model.specs.SemaphoreSet.{Semaphore, SemaphoreSet, set_of, max_operations, max_semaphores, max_value}
 use Rattle.waiting_model.specs.declared.callers.Waiting.{Waiting}
-use Rattle.waiting_model.specs.Waiters.{Awaited, awaited, IsSettled}
+use Rattle.waiting_model.specs.Waiters.{Awaited, awaited}
 use Rattle.waiting_model.specs.SemaphoreSet.{try_set}
-use Rattle.sysv_sem.specs.Limits.{IsWithinLimits}
 use Rattle.index_links.specs.Nodes.{Node}
-use Rattle.sysv_sem.specs.Waiters.{held, max_waiters, waiters_in, try_steps, IsShortOp, IsSetWaiter, LackProcess, HaveOwnProcesses, MayWait, IsAtRest}
+use Rattle.sysv_sem.specs.Waiters.{held, max_waiters, waiters_in, try_steps, IsShortOp, IsSetWaiter, LackProcess, HaveOwnProcesses}
 use Rattle.sysv_sem.specs.Body.{set_code, semaphore_field, row_field, asked_of, waiter_field, waiters_field, body, HasProcess, HasWaiterRanges, IsBodyOf}
 use Rattle.sysv_sem.specs.Reading.{semaphore_at, is_good_count, row_at, waiting_of, is_short_op, waiter_at, have_own, waiters_at, waits, is_settled, fields_at, set_at}
 use Rattle.sysv_sem.proofs.Calls.{asked_of_settled}

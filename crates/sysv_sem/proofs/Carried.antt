@@ -1,7 +1,7 @@
 -- What a call on a set comes to, put together from its try, from settling and from parking.
-use Rattle.std.proofs.Common.{◌≡◌, ◌∙◌, ◌<◌, ◌≤◌, ℕ, zero, suc, Bool, true, false, ◌&&◌, cond, List, [], ◌∷◌, ◌++◌, length, Option, Some, None, Result, Ok, Err, refl, sym, ap, subst, arith}
+use Rattle.std.proofs.Common.{◌≡◌, ◌∙◌, ◌<◌, ◌≤◌, ℕ, zero, suc, Bool, true, false, ◌&&◌, cond, List, [], ◌∷◌, ◌++◌, length, Option, Some, None, Result, Ok, Err, refl, sym, ap, subst}
 use Rattle.std.specs.Prelude.{IfOk, OnErr}
-use Rattle.std.specs.List.{list_any, AllByRecursion}
+use Rattle.std.specs.List.{AllByRecursion}
 use Rattle.std.proofs.lemmas.Bool.{leb-true}
 use Rattle.answer_laws.specs.Answers.{reply_to}
 use Rattle.pico_base.specs.declared.call.Call.{Call}
@@ -15,13 +15,14 @@ use Rattle.waiting_model.specs.declared.callers.Applied.{Applied}
 use Rattle.waiting_model.specs.declared.callers.Waiting.{Waiting}
 use Rattle.waiting_model.specs.declared.callers.Wake.{Wake}
 use Rattle.waiting_model.specs.Waiters.{Attempt, Awaited, Carried, Ready, Settled, awaited, attempt, changed, looked_up, wake, ready_or, first_ready, replied, woken_first, settle, settle_by, settle_on, carry_out, carry_out_by, waits_here, IsSettled}
-use Rattle.waiting_model.specs.SemaphoreSet.{are_tried, stop_of, waits_for, try_op, try_set, carry_out_on_set, carry_out_on_set_by}
+use Rattle.waiting_model.specs.SemaphoreSet.{are_tried, stop_of, waits_for, try_set, carry_out_on_set, carry_out_on_set_by}
+use Rattle.sysv_sem.specs.declared.apply.Came.{Came}
 use Rattle.sysv_sem.specs.Calls.{carried_to, counted_reply, is_look, look_reply}
 use Rattle.sysv_sem.specs.declared.waiters.Look.TheVariants.{Negative, Zero}
 use Rattle.sysv_sem.specs.Limits.{IsWithinLimits}
 use Rattle.sysv_sem.specs.Settling.{settled}
-use Rattle.sysv_sem.specs.Waiters.{held, max_waiters, waiters_in, try_steps, IsShortOp, IsSetWaiter, MayWait, IsAtRest}
-use Rattle.sysv_sem.proofs.Kept.{OthersHave, all_others, all_behind, may_behind, settling_keeps, settled_whole, IsSo}
+use Rattle.sysv_sem.specs.Waiters.{held, max_waiters, waiters_in, try_steps, IsShortOp, IsSetWaiter, IsAtRest}
+use Rattle.sysv_sem.proofs.Kept.{OthersHave, all_others, all_behind, may_behind, settling_keeps, settled_whole}
 use Rattle.sysv_sem.proofs.Rounds.{settle_rests}
 use Rattle.sysv_sem.proofs.Within.{try_within}
 
@@ -154,11 +155,11 @@ pub no_look : (set : Awaited SemaphoreSet) (call : Call) (o : Option Reply) → 
 no_look set call o is none = no_look_by set call (sym is ∙ none)
 
 -- as whatever comes of the call tells it
-pub other_carried : {E : Type 0} (r : Result Applied E) (old mid new : SemaphoreSet) (nodes left : List (Node Waiting))
+pub other_carried : {E : Type 0} (r : Result Came E) (old mid new : SemaphoreSet) (nodes left : List (Node Waiting))
     (who : Waiting) (o : Option Reply) → o ≡ look_reply (held old nodes) who.call → o ≡ None → mid ≡ old
-    → IfOk r (λ applied. carry_out try_set (held mid nodes) who ≡ carried_to (held new left) applied)
-    → IfOk r (λ applied. carry_out_on_set (held old nodes) who ≡ carried_to (held new left) applied)
-other_carried (Ok applied) old mid new nodes left who o is none same told =
+    → IfOk r (λ came. carry_out try_set (held mid nodes) who ≡ carried_to (held new left) came.applied)
+    → IfOk r (λ came. carry_out_on_set (held old nodes) who ≡ carried_to (held new left) came.applied)
+other_carried (Ok came) old mid new nodes left who o is none same told =
     other (held old nodes) who o is none
     ∙ (ap (λ (x : SemaphoreSet). carry_out try_set (held x nodes) who) (sym same) ∙ told)
 other_carried (Err e) old mid new nodes left who o is none same told = tt
@@ -214,11 +215,11 @@ rests_after old new who applied is h ticket apart few =
     subst IsAtRest same (rests_on old who who.call h ticket apart few)
 
 -- whether it is carried out or refused for want of memory
-pub rests_then : {E : Type 0} (r : Result Applied E) (old new : SemaphoreSet) (nodes left : List (Node Waiting))
-    (who : Waiting) → IfOk r (λ applied. carry_out_on_set (held old nodes) who ≡ carried_to (held new left) applied)
+pub rests_then : {E : Type 0} (r : Result Came E) (old new : SemaphoreSet) (nodes left : List (Node Waiting))
+    (who : Waiting) → IfOk r (λ came. carry_out_on_set (held old nodes) who ≡ carried_to (held new left) came.applied)
     → OnErr r (new ≡ old) → OnErr r (left ≡ nodes) → IsAtRest (held old nodes) → 1 ≤ who.ticket
     → waits_here who.pid (held old nodes) ≡ false → length (held old nodes).waiters < max_waiters
     → IsAtRest (held new left)
-rests_then (Ok applied) old new nodes left who is same alike h ticket apart few =
-    rests_after (held old nodes) (held new left) who applied is h ticket apart few
+rests_then (Ok came) old new nodes left who is same alike h ticket apart few =
+    rests_after (held old nodes) (held new left) who came.applied is h ticket apart few
 rests_then (Err e) old new nodes left who is same alike h ticket apart few = rw (same, alike) h

@@ -7,6 +7,7 @@ pub mod Ops
 pub mod Packing
 pub mod Removed
 pub mod Rounds
+pub mod Single
 pub mod Taking
 pub mod Told
 pub mod Trials

@@ -12,7 +12,7 @@ use Rattle.kernel_model.specs.SemaphoreSet.{Semaphore, SemaphoreSet, set_of, Mov
 use Rattle.sysv_sem.specs.OneByOne.{on_value, carried}
 use Rattle.sysv_sem.specs.Trial.{answer_of}
 
-abbrev made : ℕ → ℕ → Semaphore
+abbrev pub made : ℕ → ℕ → Semaphore
 made pid value = record { value = value; last = pid }
 
 -- ---- one operation
@@ -63,7 +63,8 @@ values_set [] n s = refl
 values_set (x ∷ row) zero s = refl
 values_set (x ∷ row) (suc n) s = ap (λ (t : List ℕ). x.value ∷ t) (values_set row n s)
 
-value_at : (row : List Semaphore) (n : ℕ)
+-- the value of the semaphore at a place
+pub value_at : (row : List Semaphore) (n : ℕ)
     → slice_get (values_of row) n ≡ option_map (λ (s : Semaphore). s.value) (slice_get row n)
 value_at [] n = refl
 value_at (x ∷ row) zero = refl

@@ -1,5 +1,5 @@
 -- Those who are left where one is taken out, or all are, and sets at which nobody waits.
-use Rattle.std.proofs.Common.{◌≡◌, ◌∙◌, ◌≤◌, ℕ, suc, ◌+◌, Bool, true, false, not, ◌&&◌, ◌||◌, nat_eq, cond, List, [], ◌∷◌, ◌++◌, map, length, find, Option, Some, None, option_map, refl, sym, ap, subst, arith}
+use Rattle.std.proofs.Common.{◌≡◌, ◌∙◌, ◌≤◌, ℕ, ◌+◌, Bool, true, false, not, ◌&&◌, ◌||◌, nat_eq, cond, List, [], ◌∷◌, ◌++◌, map, length, find, Option, Some, None, option_map, refl, sym, ap, subst, arith}
 use Rattle.std.specs.List.{filter, list_any, AllByRecursion, count_by}
 use Rattle.std.proofs.lemmas.List.Elements.{filter-append}
 use Rattle.std.proofs.lemmas.List.Folds.{find-append, list_any-append}
@@ -11,12 +11,12 @@ use Rattle.index_links.specs.Nodes.{Node, node_at, without, first_slot}
 use Rattle.kernel_model.specs.SemaphoreSet.{SemaphoreSet}
 use Rattle.waiting_model.specs.declared.callers.Waiting.{Waiting}
 use Rattle.waiting_model.specs.declared.callers.Wake.{Wake}
-use Rattle.waiting_model.specs.Waiters.{Awaited, awaited, without_waiter, IsSettled}
+use Rattle.waiting_model.specs.Waiters.{Awaited, awaited, without_waiter}
 use Rattle.waiting_model.specs.SemaphoreSet.{try_set}
 use Rattle.sysv_sem.specs.Limits.{IsWithinLimits}
-use Rattle.sysv_sem.specs.Waiters.{held, is_asked, waiters_in, IsAskedAt, Finds, LackProcess, HaveOwnProcesses, IsSetWaiter, MayWait, IsAtRest}
+use Rattle.sysv_sem.specs.Waiters.{held, is_asked, waiters_in, IsAskedAt, LackProcess, HaveOwnProcesses, IsAtRest}
 use Rattle.sysv_sem.proofs.Kept.{all_filtered, may_filtered}
-use Rattle.sysv_sem.proofs.Walk.{Reached, StandsAt, stands_next, its_value, waiters_parts, waiters_left, without_first}
+use Rattle.sysv_sem.proofs.Walk.{Reached, stands_next, its_value, waiters_parts, waiters_left, without_first}
 
 -- ---- looking for a process
 

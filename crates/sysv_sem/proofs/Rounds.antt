@@ -8,11 +8,10 @@ use Rattle.index_links.specs.Nodes.{Node, node_at, without}
 use Rattle.kernel_model.specs.SemaphoreSet.{SemaphoreSet}
 use Rattle.waiting_model.specs.declared.callers.Waiting.{Waiting}
 use Rattle.waiting_model.specs.declared.callers.Wake.{Wake}
-use Rattle.waiting_model.specs.Waiters.{Awaited, Attempt, Try, Ready, Settled, awaited, attempt, wake, ready_or, ready_behind, first_ready, settle, settle_by, settle_on}
+use Rattle.waiting_model.specs.Waiters.{Awaited, Attempt, Try, Ready, Settled, attempt, wake, ready_or, ready_behind, first_ready, settle, settle_by, settle_on}
 use Rattle.sysv_sem.specs.Waiters.{held, waiters_in, try_steps}
-use Rattle.sysv_sem.specs.Settling.{ready, settled, IsReadyAt, FindsReady, WakesOne, WakesFirst, SettlesOn}
-use Rattle.sysv_sem.specs.Trial.{TriesTo}
-use Rattle.sysv_sem.proofs.Walk.{Reached, StandsAt, stands_next, its_value, waiters_parts, waiters_left, ends, has_all}
+use Rattle.sysv_sem.specs.Settling.{ready, settled, IsReadyAt, WakesOne, WakesFirst, SettlesOn}
+use Rattle.sysv_sem.proofs.Walk.{Reached, stands_next, its_value, waiters_parts, waiters_left}
 
 module _ {T : Type 0} (try : Try T) (state : T) where
   abbrev pub Waits : Waiting → Type 0

@@ -12,7 +12,7 @@ use Rattle.pico_base.specs.declared.call.Call.{Call}
 use Rattle.pico_base.specs.declared.call.Call.TheVariants as calls
 use Rattle.pico_base.specs.declared.reply.Reply.TheVariants.{Num, Fail}
 use Rattle.waiting_model.specs.Waiters.{Attempt, attempt, changed, looked_up}
-use Rattle.waiting_model.specs.SemaphoreSet.{are_tried, stop_of, waits_for, try_op, try_set}
+use Rattle.waiting_model.specs.SemaphoreSet.{are_tried, stop_of, waits_for, try_set}
 use Rattle.sysv_sem.specs.Limits.{IsWithinLimits}
 
 -- ---- an element of a list

@@ -4,9 +4,8 @@ use Rattle.answer_laws.specs.Answers.{reply_to}
 use Rattle.pico_base.specs.declared.call.Call.{Call}
 use Rattle.pico_base.specs.declared.call.Call.TheVariants as calls
 use Rattle.pico_base.specs.declared.call.SemStep.{SemStep}
-use Rattle.pico_base.specs.declared.reply.Errno.{Errno}
 use Rattle.pico_base.specs.declared.reply.Reply.{Reply}
-use Rattle.pico_base.specs.declared.reply.Reply.TheVariants.{All, Fail}
+use Rattle.pico_base.specs.declared.reply.Reply.TheVariants.{All}
 use Rattle.kernel_model.specs.SemaphoreSet.{SemaphoreSet, values_of, value_at, last_at, read_semaphore}
 use Rattle.waiting_model.specs.declared.callers.Applied.{Applied}
 use Rattle.waiting_model.specs.Waiters.{Awaited, Carried}

@@ -1,3 +1,4 @@
+pub mod Asking
 pub mod Body
 pub mod Calls
 pub mod Limits

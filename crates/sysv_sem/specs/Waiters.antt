@@ -7,7 +7,7 @@ use Rattle.pico_base.specs.declared.call.Call.TheVariants as calls
 use Rattle.kernel_model.specs.SemaphoreSet.{SemaphoreSet, max_operations}
 use Rattle.index_links.specs.Nodes.{Node, node_at, without}
 use Rattle.waiting_model.specs.declared.callers.Waiting.{Waiting}
-use Rattle.waiting_model.specs.Waiters.{Attempt, Awaited, Try, awaited, IsSettled}
+use Rattle.waiting_model.specs.Waiters.{Awaited, Try, awaited, IsSettled}
 use Rattle.waiting_model.specs.SemaphoreSet.{try_op, try_set, steps_of}
 use Rattle.sysv_sem.specs.Limits.{IsWithinLimits}
 

@@ -6,6 +6,7 @@ mod apply;
 mod fault;
 mod one_by_one;
 mod pack;
+mod room;
 mod row;
 mod semaphore;
 mod set;
@@ -14,5 +15,6 @@ mod trial;
 mod unpack;
 mod waiters;
 
+pub use apply::{Asker, Came};
 pub use fault::NewFault;
 pub use set::SemSet;

@@ -1,5 +1,5 @@
 //! The semaphores of a set, with the values of a trial beside them.
-ghost use Rattle.std.specs.Prelude.{◌≡◌, ◌<◌, length, replicate, fold, MatchResult, Ok, Err, IfOk, false, nat_le, nat_lt, vec_len};
+ghost use Rattle.std.specs.Prelude.{◌≡◌, ℕ, ◌<◌, None, IsTrue, length, replicate, fold, MatchResult, Ok, Err, IfOk, false, nat_le, nat_lt, vec_len};
 ghost use Rattle.std.specs.Bool.{OnFalse};
 ghost use Rattle.std.specs.List.{All, list_any};
 ghost use Rattle.answer_laws.specs.Answers.{done_reply};
@@ -8,7 +8,7 @@ ghost use Rattle.waiting_model.specs.SemaphoreSet.{stop_of, try_op, try_set};
 ghost use Rattle.sysv_sem.specs.Calls.{is_look};
 ghost use Rattle.sysv_sem.specs.Trial.{TriesTo};
 
-use crate::one_by_one::carry_out;
+use crate::one_by_one::{carry_out, is_stopped, try_one};
 use crate::semaphore::Semaphore;
 use crate::trial::{MAX_VALUE, Trial, may_wait, try_in_order};
 use pico_base::{Call, Errno, Memory, Pid, Reply, SemStep, Values};
@@ -217,10 +217,9 @@ impl Row {
         }
     }
 
-    /// `semop`: all operations are carried out in order, or none. E2BIG: there are more than 32. EFBIG: one names a
-    /// semaphore that isn't there. Then the trial: EAGAIN where it stops at an operation with IPC_NOWAIT, ERANGE where
-    /// a value would be above 32,767; None where it stops at another operation, since the caller then has to wait.
-    pub(crate) fn try_op(&mut self, pid: Pid, steps: &[SemStep]) -> Option<Reply>
+    /// A `semop` of any number of operations, as `try_op` has it.
+    #[inline(never)]
+    fn try_all(&mut self, pid: Pid, steps: &[SemStep]) -> Option<Reply>
         ensures { TriesTo (try_op self.old pid steps.now) self.old self.new result }
     {
         if steps.len() > MAX_OPERATIONS {
@@ -239,6 +238,26 @@ impl Row {
             Trial::StopsAt(place) if may_wait(&steps[place]) => None,
             Trial::StopsAt(_) => Some(Reply::Fail(Errno::Eagain)),
             Trial::OutOfRange => Some(Reply::Fail(Errno::Erange)),
+        }
+    }
+
+    /// Whether a `semop` is of one operation, at which it has to wait.
+    #[inline(always)]
+    pub(crate) fn is_stopped(&self, steps: &[SemStep]) -> bool
+        ensures { IsTrue result → (pid : ℕ) → try_op self.now pid steps.now ≡ None }
+    {
+        is_stopped(&self.semaphores, steps)
+    }
+
+    /// `semop`: all operations are carried out in order, or none. E2BIG: there are more than 32. EFBIG: one names a
+    /// semaphore that isn't there. Then the trial: EAGAIN where it stops at an operation with IPC_NOWAIT, ERANGE where
+    /// a value would be above 32,767; None where it stops at another operation, since the caller then has to wait.
+    pub(crate) fn try_op(&mut self, pid: Pid, steps: &[SemStep]) -> Option<Reply>
+        ensures { TriesTo (try_op self.old pid steps.now) self.old self.new result }
+    {
+        match steps {
+            [step] => try_one(&mut self.semaphores, pid, step),
+            _ => self.try_all(pid, steps),
         }
     }
 

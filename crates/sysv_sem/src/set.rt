@@ -5,11 +5,12 @@ ghost use Rattle.sysv_sem.specs.declared.fault.NewFault.TheVariants.{BadCount};
 ghost use Rattle.kernel_model.specs.SemaphoreSet as definition;
 ghost use Rattle.kernel_model.specs.Waiting.{may_wait};
 ghost use Rattle.waiting_model.specs.Waiters.{unawaited, waits_here, wakes_at_removal, without_waiter};
-ghost use Rattle.sysv_sem.specs.Waiters.{is_asked, takers, IsAtRest};
+ghost use Rattle.sysv_sem.specs.Waiters.{is_asked, IsAtRest};
 
 use crate::NewFault;
+use crate::room::Room;
 use crate::row::{MAX_SEMAPHORES, Row};
-use crate::waiters::{callers, refuse_all, slot_of, takers, waits};
+use crate::waiters::{callers, refuse_all, slot_of, waits};
 use index_links::Links;
 use pico_base::{Errno, Memory, Node, Pid, SemStep, Values};
 use std::alloc::Global;
@@ -23,6 +24,7 @@ use waiting_model::{Waiting, Wakes};
 pub struct SemSet {
     pub(crate) row: Row,
     pub(crate) waiters: Links<Waiting>,
+    pub(crate) room: Room,
 }
 
 impl Model for SemSet {
@@ -52,6 +54,7 @@ impl SemSet {
         Ok(SemSet {
             row,
             waiters: Links::new(alloc),
+            room: Room::new(alloc),
         })
     }
 
@@ -164,14 +167,6 @@ impl SemSet {
         ensures { IsAtRest self.now }
     {
         let _ = &self.row;
-    }
-
-    /// The processes that wait in a call of which an operation takes from its semaphore, in order. Memory: the list of
-    /// them was refused.
-    pub fn takers(&self) -> Result<Vec<Pid>, Memory>
-        ensures { IfOk result (λ pids. pids.items ≡ takers self.now.waiters) }
-    {
-        takers(self.row.allocator(), &self.waiters)
     }
 
     /// The nodes of those who wait, in order. Memory: the list of them was refused.

@@ -14,6 +14,7 @@ ghost use Rattle.sysv_sem.specs.Waiters.{waiters_in};
 
 use crate::SemSet;
 use crate::pack::CODE;
+use crate::room::Room;
 use crate::row::{MAX_OPERATIONS, MAX_SEMAPHORES, Row};
 use crate::semaphore::Semaphore;
 use crate::settling::try_waiter;
@@ -255,7 +256,11 @@ impl SemSet {
         match parts_of(alloc, bytes) {
             Ok((row, waiters)) => {
                 let waiters = linked(alloc, waiters)?;
-                Ok(SemSet { row, waiters })
+                Ok(SemSet {
+                    row,
+                    waiters,
+                    room: Room::new(alloc),
+                })
             }
             Err(fault) => Err(fault),
         }

@@ -1,5 +1,5 @@
 //! Those who wait at a set, gone through in order.
-ghost use Rattle.std.specs.Prelude.{◌≡◌, ◌≤◌, ◌++◌, [], length, map, nat_eq, if◌then◌else◌, vec_capacity, IfOk, OnOk};
+ghost use Rattle.std.specs.Prelude.{◌≡◌, ◌≤◌, ◌+◌, ◌<◌, ◌++◌, [], length, map, nat_eq, if◌then◌else◌, vec_len, vec_capacity, IfOk};
 ghost use Rattle.std.specs.List.{list_any};
 ghost use Rattle.pico_base.specs.declared.reply.Errno.TheVariants.{Eidrm};
 ghost use Rattle.pico_base.specs.declared.reply.Reply.TheVariants.{Fail};
@@ -78,31 +78,33 @@ fn takes_away(call: &Call) -> bool
     steps_of(call).iter().any(|step| step.add < 0)
 }
 
-/// Adds the process of one who waits at the end, if its call takes away.
-fn push_taker(pids: &mut Vec<Pid>, waiter: &Waiting) -> Result<(), Memory>
-    ensures { OnOk result (pids.new.items ≡ pids.old.items ++ taker waiter.now) }
+/// Adds the process of one who waits at the end, if its call takes away. There is room for it.
+fn push_taker(pids: &mut Vec<Pid>, waiter: &Waiting)
+    requires { vec_len pids.old < vec_capacity pids.old }
+    ensures items { pids.new.items ≡ pids.old.items ++ taker waiter.now }
+    ensures len { vec_len pids.new ≤ vec_len pids.old + 1 }
+    ensures capacity { vec_capacity pids.new ≡ vec_capacity pids.old }
 {
     if takes_away(&waiter.call) {
-        pids.push(waiter.pid)?;
+        pids.push_reserved(waiter.pid);
     }
-    Ok(())
 }
 
-/// The processes that wait in a call that takes away, in order.
-pub(crate) fn takers(alloc: Global, waiters: &Links<Waiting>) -> Result<Vec<Pid>, Memory>
-    ensures { IfOk result (λ pids. pids.items ≡ takers (waiters_in waiters.now.nodes)) }
+/// Adds the processes that wait in a call that takes away to an empty list, in order. There is room for all who wait.
+pub(crate) fn note_takers(pids: &mut Vec<Pid>, waiters: &Links<Waiting>)
+    requires nobody { pids.old.items ≡ [] }
+    requires room { length waiters.now.nodes ≤ vec_capacity pids.old }
+    ensures { pids.new.items ≡ takers (waiters_in waiters.now.nodes) }
 {
-    let mut pids = Vec::with_capacity(alloc, waiters.len() as usize)?;
     waiters.have_own_slots();
     let mut at = waiters.first();
     for _ in 0..waiters.len() {
         let Some(slot) = at else {
-            return Ok(pids);
+            return;
         };
-        push_taker(&mut pids, waiters.value(slot))?;
+        push_taker(pids, waiters.value(slot));
         at = waiters.next(slot);
     }
-    Ok(pids)
 }
 
 /// The nodes of those who wait, in order.

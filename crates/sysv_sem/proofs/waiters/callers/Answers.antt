@@ -1,6 +1,6 @@
 use Rattle.std.proofs.Common.{arith}
 use Rattle.sysv_sem.proofs.Taking.{AreCallers, callers-further}
-use Rattle.sysv_sem.proofs.Walk.{begins, there, further, ends, has_all}
+use Rattle.sysv_sem.proofs.Walk.{there, further, ends, has_all}
 use Rattle.sysv_sem.proofs.waiters.callers.Goals as goal
 
 pub value-requires : goal.value-requires

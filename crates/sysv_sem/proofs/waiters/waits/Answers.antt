@@ -1,6 +1,5 @@
-use Rattle.std.proofs.Common.{◌≡◌, ◌∙◌, List, false, nat_eq, refl, sym, arith}
+use Rattle.std.proofs.Common.{◌≡◌, ◌∙◌, false, nat_eq, refl, sym, arith}
 use Rattle.std.specs.List.{list_any}
-use Rattle.waiting_model.specs.declared.callers.Waiting.{Waiting}
 use Rattle.sysv_sem.proofs.Removed.{none_further, any_there}
 use Rattle.sysv_sem.proofs.Walk.{begins, there, further, ends, has_all}
 use Rattle.sysv_sem.proofs.waiters.waits.Goals as goal

@@ -2,7 +2,7 @@ use Rattle.std.proofs.Common.{◌≡◌, ◌∙◌, ℕ, false, nat_le, length, 
 use Rattle.std.specs.List.{list_any}
 use Rattle.std.proofs.lemmas.Option.{slice_get-get_or}
 use Rattle.sysv_sem.proofs.Ops.{op-waits, op-refused}
-use Rattle.sysv_sem.proofs.row.Row.try_op.Goals as goal
+use Rattle.sysv_sem.proofs.row.Row.try_all.Goals as goal
 
 pub returns-in-StopsAt : goal.returns-in-StopsAt
 returns-in-StopsAt c =
