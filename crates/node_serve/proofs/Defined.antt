@@ -1,9 +1,8 @@
 -- What is served, by the definition of a served call.
 use Rattle.std.proofs.Common.{◌≡◌, ◌∙◌, ℕ, Bool, true, false, not, ◌&&◌, List, [], ◌∷◌, ◌++◌, map, Option, Some, None, refl, sym, ap}
 use Rattle.std.specs.Prelude.{if◌then◌else◌, IsTrue}
-use Rattle.std.specs.List.{filter}
+use Rattle.std.specs.List.{filter, AllByRecursion}
 use Rattle.std.specs.Option.{option_and_then, option_map, option_map_or}
-use Rattle.std.proofs.lemmas.List.Elements.{filter_agree}
 use Rattle.pico_base.specs.declared.call.Call.{Call}
 use Rattle.pico_base.specs.declared.call.Call.TheVariants as calls
 use Rattle.pico_base.specs.declared.numbers.Name.{Name}
@@ -82,6 +81,11 @@ has-effect k who a n (calls.SemGetAll id) s = has _
 has-effect k who a n (calls.SemSetAll id values) s = has _
 has-effect k who a n (calls.SemRmid id) s = has _
 
+-- what two tests answer alike of each, they keep alike
+filter_same : (p q : Wake → Bool) (ws : List Wake) → AllByRecursion (λ w. p w ≡ q w) ws → filter p ws ≡ filter q ws
+filter_same p q [] same = refl
+filter_same p q (w ∷ ws) same = rw (same.0, filter_same p q ws same.1) refl
+
 -- ---- by the definition
 
 buried : (own : Option Reply) (m : Named Body) → bodies_of (bury_found own m) ≡ put_all (bodies_of m) (found_gone own)
@@ -115,13 +119,13 @@ module _ (old : Named Body) (who : Waiting) (served : may_be_served who.call ≡
   -- who reads, as the definition has it
   same-nodes : (body : model.Body) (own : Option Reply) (wakes : List Wake) (reads : Bool) (readers : Readers)
       (e : Effect) → own ≡ e.own → wakes ≡ e.wakes → reads ≡ has_read_if who.call own
-      → ((w : Wake) → reads_among readers w ≡ woken_reads (waiters_of body) w)
+      → AllByRecursion (λ w. reads_among readers w ≡ woken_reads (waiters_of body) w) wakes
       → nodes_that_read who.caller reads wakes readers ≡ definition.readers_of body who e
   same-nodes body own wakes reads readers e replies woken read say =
       ap (λ (b : Bool). caller_if b who.caller ++ map (λ w. w.caller) (filter (reads_among readers) wakes))
       (read ∙ ap (has_read_if who.call) replies)
       ∙ ap (λ (ws : List Wake). caller_if (has_read_if who.call e.own) who.caller ++ map (λ w. w.caller) ws)
-      (filter_agree (reads_among readers) (woken_reads (waiters_of body)) say wakes
+      (filter_same (reads_among readers) (woken_reads (waiters_of body)) wakes say
       ∙ ap (filter (woken_reads (waiters_of body))) woken)
 
   defined : (new : Named Body) (own : Option Reply) (wakes : List Wake) (reads : Bool) (readers : Readers)

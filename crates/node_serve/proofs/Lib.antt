@@ -8,6 +8,7 @@ pub mod Parcels
 pub mod Prompts
 pub mod Reading
 pub mod ReadTaken
+pub mod Receivers
 pub mod ServingLemmas
 pub mod Taken
 pub mod Waking

@@ -1,19 +1,20 @@
 -- Which of those who wait read once they go on.
-use Rattle.std.proofs.Common.{◌≡◌, ◌∙◌, ℕ, Bool, true, false, ◌&&◌, ◌||◌, nat_eq, List, [], ◌∷◌, refl, sym, ap}
+use Rattle.std.proofs.Common.{◌≡◌, ◌∙◌, ℕ, Bool, true, false, ◌&&◌, ◌||◌, nat_eq, List, [], ◌∷◌, map, refl, sym, ap, subst}
 use Rattle.std.specs.Prelude.{if◌then◌else◌}
 use Rattle.std.specs.List.{AllByRecursion, flat_map, list_any}
 use Rattle.std.proofs.lemmas.List.Concat.{flat_map-cons}
 use Rattle.std.proofs.lemmas.List.Folds.{list_any-append}
 use Rattle.pico_base.specs.declared.call.Call.{Call}
 use Rattle.pico_base.specs.declared.call.Call.TheVariants as calls
+use Rattle.pico_base.specs.declared.reply.Errno.{Errno}
+use Rattle.pico_base.specs.declared.reply.Errno.TheVariants.{Eidrm}
 use Rattle.pico_base.specs.declared.reply.Reply.{Reply}
 use Rattle.pico_base.specs.declared.reply.Reply.TheVariants as replies
-use Rattle.kernel_model.specs.Queue as kernel
 use Rattle.kernel_model.specs.SemaphoreSet.{SemaphoreSet}
-use Rattle.waiting_model.specs.Waiters.{Awaited}
+use Rattle.waiting_model.specs.Waiters.{Awaited, wake, wakes_at_removal}
 use Rattle.waiting_model.specs.declared.callers.Waiting.{Waiting}
 use Rattle.waiting_model.specs.declared.callers.Wake.{Wake}
-use Rattle.sysv_msg.specs.Limits.{AreParked, IsParked, is_receive, may_wait, receivers}
+use Rattle.sysv_sem.specs.Asking.{NotesTakers}
 use Rattle.sysv_sem.specs.Waiters.{IsAtRest, IsSetWaiter, IsShortOp, takers, takes_away}
 use Rattle.node_model.specs.Serving.{has_read, woken_reads}
 use Rattle.node_serve.specs.Serving.{gives_message, gives_number}
@@ -67,24 +68,6 @@ module _ (May : Waiting → Type 0) (reads : Call → Bool) (gives : Reply → B
       ∙ ap (λ (b : Bool). (nat_eq v.pid w.pid && (reads v.call && gives w.reply)) || b) (readers-say vs w each.1)
       ∙ ap (λ (b : Bool). (nat_eq v.pid w.pid && b) || woken_reads vs w) (sym (by-kind v w.reply each.0))
 
--- ---- receives
-
-receive-reads : (call : Call) (reply : Reply) → may_wait call ≡ true
-    → has_read call reply ≡ (is_receive call && gives_message reply)
-receive-reads (calls.MsgSnd id class text nowait) reply h = refl
-receive-reads (calls.MsgRcv id class size noerror nowait) (replies.Message message_class text) h = refl
-receive-reads (calls.MsgRcv id class size noerror nowait) reply h = refl
-receive-reads call reply h = absurd (cc)
-
--- a queue's receivers say who reads there
-pub receivers-say : (q : Awaited kernel.Queue) (pids : List ℕ) → AreParked q → pids ≡ receivers q.waiters
-    → (w : Wake) → (is_among pids w.pid && gives_message w.reply) ≡ woken_reads q.waiters w
-receivers-say q pids parked is w =
-    ap (λ (ps : List ℕ). is_among ps w.pid && gives_message w.reply) is
-    ∙ readers-say IsParked is_receive gives_message (λ v reply parked. receive-reads v.call reply parked.call) q.waiters
-    w
-    parked.each
-
 -- ---- operations on semaphores
 
 op-reads : (call : Call) (reply : Reply) → IsShortOp call
@@ -94,9 +77,48 @@ op-reads (calls.SemOp id steps) reply short = sym (and-false (takes_away (calls.
 op-reads call reply short = absurd short
 
 -- a set's takers say who reads there
-pub takers-say : (s : Awaited SemaphoreSet) (pids : List ℕ) → IsAtRest s → pids ≡ takers s.waiters
+say-takers : (s : Awaited SemaphoreSet) (pids : List ℕ) → IsAtRest s → pids ≡ takers s.waiters
     → (w : Wake) → (is_among pids w.pid && gives_number w.reply) ≡ woken_reads s.waiters w
-takers-say s pids rest is w =
+say-takers s pids rest is w =
     ap (λ (ps : List ℕ). is_among ps w.pid && gives_number w.reply) is
     ∙ readers-say IsSetWaiter takes_away gives_number (λ v reply waits. op-reads v.call reply waits.call) s.waiters w
     rest.waiters.each
+
+all-wakes : (P : Wake → Type 0) → ((w : Wake) → P w) → (ws : List Wake) → AllByRecursion P ws
+all-wakes P each [] = tt
+all-wakes P each (w ∷ ws) = (each w, all-wakes P each ws)
+
+-- where somebody is woken the takers are noted
+pub takers-say : (s : Awaited SemaphoreSet) (pids : List ℕ) (wakes : List Wake) → IsAtRest s
+    → NotesTakers wakes pids (takers s.waiters)
+    → AllByRecursion (λ w. (is_among pids w.pid && gives_number w.reply) ≡ woken_reads s.waiters w) wakes
+takers-say s pids [] rest notes = tt
+takers-say s pids (v ∷ vs) rest notes =
+    all-wakes (λ w. (is_among pids w.pid && gives_number w.reply) ≡ woken_reads s.waiters w)
+    (say-takers s pids rest notes) (v ∷ vs)
+
+-- ---- a removal
+
+-- who is refused has read nothing
+refused-reads : (call : Call) (e : Errno) → has_read call (replies.Fail e) ≡ false
+refused-reads (calls.MsgRcv id class size noerror nowait) e = refl
+refused-reads (calls.SemOp id steps) e = refl
+refused-reads call e = refl
+
+nobody-reads : (vs : List Waiting) (pid : ℕ) (e : Errno)
+    → list_any (λ v. nat_eq v.pid pid && has_read v.call (replies.Fail e)) vs ≡ false
+nobody-reads [] pid e = refl
+nobody-reads (v ∷ vs) pid e =
+    rw (refused-reads v.call e, and-false (nat_eq v.pid pid), nobody-reads vs pid e) refl
+
+removal-says : (all vs : List Waiting)
+    → AllByRecursion (λ w. gives_message w.reply ≡ woken_reads all w) (map (λ v. wake v (replies.Fail Eidrm)) vs)
+removal-says all [] = tt
+removal-says all (v ∷ vs) = (sym (nobody-reads all v.pid Eidrm), removal-says all vs)
+
+-- nobody reads who is woken by a removal
+pub removed-say : {T : Type 0} (object : Awaited T) (wakes : List Wake) → wakes ≡ wakes_at_removal object
+    → AllByRecursion (λ w. gives_message w.reply ≡ woken_reads object.waiters w) wakes
+removed-say object wakes is =
+    subst (AllByRecursion (λ w. gives_message w.reply ≡ woken_reads object.waiters w)) (sym is)
+    (removal-says object.waiters object.waiters)
