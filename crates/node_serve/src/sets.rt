@@ -138,7 +138,7 @@ fn park_or_wake(set: &mut SemSet, who: &Who, call: &Call) -> Result<Came, Memory
         ticket: who.ticket,
         pid: who.pid,
     };
-    set.apply(&asker, call)
+    set.serve(&asker, call)
 }
 
 /// A call on a set that is there, other than its removal. Where it can't park and nobody waits it is carried out as it

@@ -1,5 +1,5 @@
 //! A call that comes to a set: it has its reply, and wakes whoever that lets go on, or it parks.
-ghost use Rattle.std.specs.Prelude.{◌≡◌, ◌≤◌, ◌<◌, ◌++◌, ◌∷◌, [], None, Some, false, length, vec_capacity, IfOk, OnErr, IsTrue};
+ghost use Rattle.std.specs.Prelude.{◌≡◌, ◌≤◌, ◌<◌, ◌++◌, ◌∷◌, [], None, Some, false, length, vec_capacity, IfOk, IfErr, OnErr, IsTrue};
 ghost use Rattle.std.specs.List.{AllByRecursion};
 ghost use Rattle.answer_laws.specs.Answers.{reply_to};
 ghost use Rattle.waiting_model.specs.Waiters.{carry_out, settle, waits_here, IsSettled};
@@ -215,7 +215,7 @@ impl SemSet {
     /// semaphore, GETZCNT those at a zero operation. A waiter whose operations come to stop at one with IPC_NOWAIT is
     /// woken with EAGAIN. The call is copied where it parks. Memory: an allocation was refused. The set is then as it
     /// was.
-    pub fn apply(&mut self, who: &Asker, call: &Call) -> Result<Came, Memory>
+    pub fn serve(&mut self, who: &Asker, call: &Call) -> Result<Came, Memory>
         requires ticket { 1 ≤ who.now.ticket }
         requires call { IsTrue (is_on_set call.now) }
         requires apart { waits_here who.now.pid self.old ≡ false }
@@ -227,5 +227,27 @@ impl SemSet {
         ensures unchanged { OnErr result (self.new ≡ self.old) }
     {
         carry_out(&mut self.row, &mut self.waiters, &mut self.room, who, call)
+    }
+
+    /// Carries out a call as `serve` does, of a caller as it would wait. Memory: an allocation was refused. The set is
+    /// then as it was, and the caller comes back.
+    pub fn apply(&mut self, who: Waiting) -> Result<Applied, (Memory, Waiting)>
+        requires ticket { 1 ≤ who.ticket }
+        requires call { IsTrue (is_on_set who.call) }
+        requires apart { waits_here who.pid self.old ≡ false }
+        requires room { length self.old.waiters < max_waiters }
+        ensures carried { IfOk result (λ applied. carry_out_on_set self.old who ≡ carried_to self.new applied) }
+        ensures unchanged { OnErr result (self.new ≡ self.old) }
+        ensures back { IfErr result (λ e. e.1 ≡ who) }
+    {
+        let asker = Asker {
+            caller: who.caller,
+            ticket: who.ticket,
+            pid: who.pid,
+        };
+        match self.serve(&asker, &who.call) {
+            Ok(came) => Ok(came.applied),
+            Err(Memory) => Err((Memory, who)),
+        }
     }
 }

@@ -1,6 +1,6 @@
 use Rattle.sysv_sem.specs.Asking.{asking}
 use Rattle.sysv_sem.proofs.Carried.{rests_then}
-use Rattle.sysv_sem.proofs.set.SemSet.apply.Goals as goal
+use Rattle.sysv_sem.proofs.set.SemSet.serve.Goals as goal
 
 pub invariant_of-self : goal.invariant_of-self
 invariant_of-self c =
