@@ -24,7 +24,7 @@ use crate::waiting::{alone, at_once};
 use crate::{Body, Readers, Served, Who};
 use pico_base::{Call, Errno, Home, Memory, Name, Pid, Reply, SemStep, home};
 use std::alloc::Global;
-use sysv_msg::Queue;
+use sysv_msg::HeldQueue;
 use sysv_sem::SemSet;
 use waiter_fields::MAX_WAITERS;
 use waiting_model::{Applied, Wakes};
@@ -114,7 +114,7 @@ fn on_process_body(alloc: Global, body: &mut Body, pid: Pid, who: &Who, call: &C
 }
 
 /// A call on a queue. A refusal for want of memory changes nothing.
-fn on_a_queue(alloc: Global, queue: &mut Queue, who: &Who, call: &Call) -> Result<Came, Memory>
+fn on_a_queue(alloc: Global, queue: &mut HeldQueue, who: &Who, call: &Call) -> Result<Came, Memory>
     requires own { waits_here who.now.pid queue.old ≡ false }
     requires few { length queue.old.waiters < 32 }
     ensures ok { IfOk result (λ came.

@@ -1,7 +1,7 @@
 -- The limits of a queue and of those who wait at it (profile), and which calls may wait there.
-use Rattle.std.specs.Prelude.{◌≡◌, ℕ, Bool, true, false, ◌≤◌, pos, ◌≤ℤ◌, FitsSigned, List, [], ◌∷◌, length, if◌then◌else◌}
+use Rattle.std.specs.Prelude.{◌≡◌, ℕ, Bool, true, false, ◌≤◌, pos, ◌≤ℤ◌, FitsSigned, List, length}
 use Rattle.std.specs.Int.{w32}
-use Rattle.std.specs.List.{AllByRecursion, flat_map}
+use Rattle.std.specs.List.{AllByRecursion}
 use Rattle.pico_base.specs.declared.call.Call.{Call}
 use Rattle.pico_base.specs.declared.call.Call.TheVariants as calls
 use Rattle.kernel_model.specs.Queue.{Message, Queue, bytes_in, max_text, max_queue_bytes, max_messages}
@@ -35,17 +35,6 @@ abbrev pub may_wait : Call → Bool
 may_wait (calls.MsgSnd id class text nowait) = true
 may_wait (calls.MsgRcv id class size noerror nowait) = true
 may_wait call = false
-
-abbrev pub is_receive : Call → Bool
-is_receive (calls.MsgRcv id class size noerror nowait) = true
-is_receive call = false
-
--- the processes that wait in a receive, in order
-abbrev pub receiver : Waiting → List ℕ
-receiver w = if is_receive w.call then w.pid ∷ [] else []
-
-abbrev pub receivers : List Waiting → List ℕ
-receivers ws = flat_map receiver ws
 
 pub record IsParked (w : Waiting) : Type 0 where
   pub ticket : 1 ≤ w.ticket

@@ -5,7 +5,6 @@ ghost use Rattle.kernel_model.specs.Queue.{empty_queue, send, receive, set_qbyte
 ghost use Rattle.waiting_model.specs.Waiters.{awaited, unawaited, settle, waits_here, wakes_at_removal};
 ghost use Rattle.waiting_model.specs.Queue.{try_queue, carry_out_on_queue};
 ghost use Rattle.waiter_fields.specs.Settling.{IsCarried, IsSettling, IsTaken, WakesAt, WakesFirst, is_waiter};
-ghost use Rattle.sysv_msg.specs.Limits.{is_receive, receiver, receivers};
 ghost use Rattle.sysv_msg.specs.Refusals.{RefusesSend};
 
 use crate::store::Store;
@@ -15,34 +14,6 @@ use std::alloc::Global;
 use std::marker::Model;
 use waiter_fields::{take_waiter, waits_among, wakes_at_removal};
 use waiting_model::{Applied, Waiting, Wake, Wakes};
-
-/// Whether the call is a receive.
-fn is_receive(call: &Call) -> bool
-    ensures { result ≡ is_receive call.now }
-{
-    matches!(call, Call::MsgRcv { .. })
-}
-
-/// Adds the process of one who waits at the end, if it waits in a receive.
-fn push_receiver(pids: &mut Vec<Pid>, waiter: &Waiting) -> Result<(), Memory>
-    ensures { OnOk result (pids.new.items ≡ pids.old.items ++ receiver waiter.now) }
-{
-    if is_receive(&waiter.call) {
-        pids.push(waiter.pid)?;
-    }
-    Ok(())
-}
-
-/// The processes that wait in a receive, in order.
-fn receivers(alloc: Global, waiters: &[Waiting]) -> Result<Vec<Pid>, Memory>
-    ensures { IfOk result (λ pids. pids.items ≡ receivers waiters.now) }
-{
-    let mut pids = Vec::with_capacity(alloc, waiters.len())?;
-    for waiter in waiters {
-        push_receiver(&mut pids, waiter)?;
-    }
-    Ok(pids)
-}
 
 /// The nodes of those who wait, in order.
 fn callers(alloc: Global, waiters: &[Waiting]) -> Result<Vec<Node>, Memory>
@@ -103,13 +74,6 @@ impl Awaiting {
         ensures { result ≡ waits_here pid self.now }
     {
         waits_among(self.waiters.as_slice(), pid)
-    }
-
-    /// The processes that wait in a receive, in order.
-    pub(crate) fn receivers(&self) -> Result<Vec<Pid>, Memory>
-        ensures { IfOk result (λ pids. pids.items ≡ receivers self.now.waiters) }
-    {
-        receivers(self.allocator(), self.waiters.as_slice())
     }
 
     /// The nodes of those who wait, in order.

@@ -7,7 +7,7 @@ ghost use Rattle.waiting_model.specs.Queue.{carry_out_on_queue};
 ghost use Rattle.waiting_model.specs.Waiters.{Awaited, unawaited, waits_here, wakes_at_removal, without_waiter};
 ghost use Rattle.waiter_fields.specs.Settling.{IsCarried, is_waiter};
 ghost use Rattle.sysv_msg.specs.Body.{IsBodyOf};
-ghost use Rattle.sysv_msg.specs.Limits.{AreParked, is_queue_call, receivers};
+ghost use Rattle.sysv_msg.specs.Limits.{AreParked, is_queue_call};
 ghost use Rattle.sysv_msg.specs.Refusals.{RefusesReceive, RefusesSend};
 
 use crate::packed::PackedQueue;
@@ -192,16 +192,6 @@ impl HeldQueue {
         match &self.form {
             Form::Linked(queue) => queue.is_at_rest(),
             Form::Packed(_) => {}
-        }
-    }
-
-    /// The processes that wait in a receive, in order. Memory: the list of them was refused.
-    pub fn receivers(&self) -> Result<Vec<Pid>, Memory>
-        ensures { IfOk result (λ pids. pids.items ≡ receivers self.now.waiters) }
-    {
-        match &self.form {
-            Form::Linked(queue) => queue.receivers(),
-            Form::Packed(packed) => Ok(Vec::new(packed.allocator())),
         }
     }
 

@@ -4,7 +4,7 @@ ghost use Rattle.kernel_model.specs.Queue as definition;
 ghost use Rattle.waiting_model.specs.Queue.{carry_out_on_queue};
 ghost use Rattle.waiting_model.specs.Waiters.{unawaited, waits_here, wakes_at_removal, without_waiter};
 ghost use Rattle.waiter_fields.specs.Settling.{IsCarried, is_waiter};
-ghost use Rattle.sysv_msg.specs.Limits.{AreParked, is_queue_call, receivers};
+ghost use Rattle.sysv_msg.specs.Limits.{AreParked, is_queue_call};
 ghost use Rattle.sysv_msg.specs.Refusals.{RefusesSend};
 
 use crate::awaiting::Awaiting;
@@ -108,13 +108,6 @@ impl Queue {
         ensures { AreParked self.now }
     {
         let _ = &self.awaiting;
-    }
-
-    /// The processes that wait in a receive, in order. Memory: the list of them was refused.
-    pub fn receivers(&self) -> Result<Vec<Pid>, Memory>
-        ensures { IfOk result (λ pids. pids.items ≡ receivers self.now.waiters) }
-    {
-        self.awaiting.receivers()
     }
 
     /// The nodes of those who wait, in order. Memory: the list of them was refused.
