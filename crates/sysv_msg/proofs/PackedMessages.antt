@@ -16,9 +16,9 @@ use Rattle.std.proofs.lemmas.Iterator.Adapters.{position_from-zero}
 use Rattle.std.proofs.Math.Seq.{drop-append_seam, take-append_seam}
 use Rattle.pico_base.specs.declared.reply.Errno.TheVariants.{E2big, Enomsg}
 use Rattle.body_fields.specs.Fields.{number_upto}
-use Rattle.body_fields.proofs.Fields.{IsBytes, some_is}
+use Rattle.body_fields.proofs.Fields.{IsBytes, Takes, some_is}
 use Rattle.frame_bytes.specs.Readers.{many}
-use Rattle.frame_bytes.proofs.Inverse.{many-again, many-takes}
+use Rattle.frame_bytes.proofs.Inverse.{Counted, Inverse, counted-inverse}
 use Rattle.kernel_model.specs.Queue.{Message, Queue, bytes_of, has_room, max_messages, max_queue_bytes, max_text, receive, receive_from, select, send}
 use Rattle.waiting_model.specs.Waiters.{Awaited, unawaited}
 use Rattle.sysv_msg.specs.Body.{IsBodyOf, message_field, queue_code}
@@ -35,16 +35,33 @@ use Rattle.sysv_msg.proofs.Receiving.{receive_refused, receive_taken}
 
 -- ---- the bytes of messages are read as these messages
 
+-- a count that stands in no bytes, since it is known
+known-count : (n : ℕ) → Inverse ℕ (λ k. k ≡ n) (λ k. []) (λ bytes. Some (n, bytes))
+known-count n = record { takes = taken; again = λ k rest is. ap (λ (j : ℕ). Some (j, rest)) (sym is) } where
+  taken : (bytes : List ℕ) (x : ℕ × List ℕ) → IsBytes bytes → Some (n, bytes) ≡ Some x
+      → Takes bytes [] x.1 × (x.0 ≡ n)
+  taken bytes x fits e =
+      let is = some_is (n, bytes) x e in
+      subst (λ (y : ℕ × List ℕ). Takes bytes [] y.1 × (y.0 ≡ n)) is (record { parts = refl; rest_fits = fits }, refl)
+
+-- so many messages are read as they are spelled
+so-many : (n : ℕ) → Inverse (List Message) (Counted Message (λ k. k ≡ n) IsSendable) (flat_map message_field)
+    (many message_at n)
+so-many n =
+    counted-inverse Message (λ k. k ≡ n) (λ k. []) (λ bytes. Some (n, bytes)) IsSendable message_field message_at
+    (known-count n) message-inverse
+
+-- what so many are read as
 pub messages-are : (count size : ℕ) (bytes : List ℕ) (ms : List Message) → Holds count size bytes ms
     → messages_in count bytes ≡ ms
 unfolding messages_in
 messages-are count size bytes ms h =
     let spelled : bytes ≡ flat_map message_field ms ++ [] =
     h.spelled ∙ sym (append-nil (flat_map message_field ms)) in
-    ap (λ (n : ℕ). messages_or_none (many message_at n bytes)) (sym h.counted)
-    ∙ (ap (λ (b : List ℕ). messages_or_none (many message_at (length ms) b)) spelled
-    ∙ ap messages_or_none (many-again Message IsSendable message_field message_at message-inverse ms [] h.each))
+    ap (λ (b : List ℕ). messages_or_none (many message_at count b)) spelled
+    ∙ ap messages_or_none ((so-many count).again ms [] (record { count = h.counted; each = h.each }))
 
+-- the bytes hold what is read of them
 pub holds-read : (count size : ℕ) (bytes : List ℕ) (ms : List Message) → Holds count size bytes ms
     → Holds count size bytes (messages_in count bytes)
 holds-read count size bytes ms h = subst (Holds count size bytes) (sym (messages-are count size bytes ms h)) h
@@ -56,6 +73,7 @@ each-more : (ms : List Message) (m : Message) → AllByRecursion IsSendable ms �
 each-more [] m each sendable = (sendable, tt)
 each-more (k ∷ ms) m each sendable = (each.0, each-more ms m each.1 sendable)
 
+-- behind one more message they hold it, too
 pub holds-more : (count size : ℕ) (bytes : List ℕ) (ms : List Message) (m : Message) → Holds count size bytes ms
     → IsSendable m → length ms < max_messages → bytes_of ms + length m.text ≤ max_queue_bytes
     → Holds (count + 1) (size + length m.text) (bytes ++ message_field m) (ms ++ m ∷ [])
@@ -102,12 +120,14 @@ first-read m ms bytes each spelled =
     ap message_at (spelled ∙ flat_map-cons message_field m ms)
     ∙ message-inverse.again m (flat_map message_field ms) each.0
 
+-- where none is read there is none
 pub none-there : (count size : ℕ) (bytes : List ℕ) (ms : List Message) → Holds count size bytes ms
     → message_at bytes ≡ None → ms ≡ []
 none-there count size bytes [] h none = refl
 none-there count size bytes (m ∷ ms) h none =
     absurd (none-some (message_at bytes) (m, flat_map message_field ms) none (first-read m ms bytes h.each h.spelled))
 
+-- the one that is read is the first
 pub front-there : (count size : ℕ) (bytes rest : List ℕ) (ms : List Message) (m : Message)
     → Holds count size bytes ms → message_at bytes ≡ Some (m, rest) → Front bytes m rest count size ms
 front-there count size bytes rest [] m h read =
@@ -243,11 +263,13 @@ room-there bytes len qbytes count test =
 
 -- ---- numbers that are equal as they are stored
 
+-- signed numbers of 32 bits
 pub same-number : (a b : ℤ) → SFits w32 a → SFits w32 b → nat_eq (of_z w32 a) (of_z w32 b) ≡ true → a ≡ b
 same-number a b fits_a fits_b same =
     sym (to_z-of_z w32 a fits_a)
     ∙ (ap (to_z w32) (eqb-true (of_z w32 a) (of_z w32 b) same) ∙ to_z-of_z w32 b fits_b)
 
+-- what holds where a test is passed
 pub on-true : (b : Bool) (P : Type 0) → (b ≡ true → P) → OnTrue b P
 on-true true P h = h refl
 on-true false P h = tt
@@ -259,8 +281,7 @@ pub one-behind : (count size : ℕ) (bytes waiters : List ℕ) → IsBytes bytes
     → (p : Passes count bytes size waiters)
     → length bytes ≡ length (flat_map message_field p.messages) + 1
 one-behind count size bytes waiters fits none p =
-    let w = many-takes Message IsSendable message_field message_at message-inverse count bytes (p.messages, waiters)
-    fits p.read in
+    let w = (so-many count).takes bytes (p.messages, waiters) fits p.read in
     let long = ap (λ (b : List ℕ). length b) w.0.parts in
     let one : length waiters ≡ 1 = ap (λ (b : List ℕ). length b) none in
     omega (arith, long, one, length-append (flat_map message_field p.messages) waiters)
@@ -270,29 +291,29 @@ pub has-taken : (count size : ℕ) (bytes waiters taken : List ℕ) → IsBytes 
     → Passes count bytes size waiters → count ≤ max_messages → size ≤ max_queue_bytes
     → taken ≡ take (length bytes - 1) bytes → HasTaken count size bytes taken
 has-taken count size bytes waiters taken fits none p few light is =
-    let w = many-takes Message IsSendable message_field message_at message-inverse count bytes (p.messages, waiters)
-    fits p.read in
+    let w = (so-many count).takes bytes (p.messages, waiters) fits p.read in
     let fields : List ℕ = flat_map message_field p.messages in
     let long = one-behind count size bytes waiters fits none p in
     let front : length bytes - 1 ≡ length fields = omega (arith, long) in
-    let counted = w.1.0 in
+    let long_as = w.1.count in
     let sized = p.size_is in
     record {
       messages = p.messages;
       read = p.read ∙ ap (λ (b : List ℕ). Some (p.messages, b)) none;
       holds = record {
-        counted = counted;
+        counted = w.1.count;
         sized = sized;
         spelled = is ∙ (ap (λ (n : ℕ). take n bytes) front
             ∙ (ap (λ (b : List ℕ). take (length fields) b) w.0.parts ∙ take-append_seam fields waiters));
-        few = omega (arith, counted, few);
+        few = omega (arith, long_as, few);
         light = omega (arith, sized, light);
-        each = w.1.1;
+        each = w.1.each;
       };
     }
 
 -- ---- a queue that is unpacked so
 
+-- at which nobody waits
 pub unpacked-body : (bytes fields rest behind taken : List ℕ) (n : ℕ × ℕ × ℕ) (count size : ℕ) → IsBytes bytes
     → bytes ≡ queue_code ∷ fields → numbers_at fields ≡ Some (n, rest)
     → number_upto w16 max_messages rest ≡ Some (count, behind) → HasTaken count size behind taken

@@ -223,7 +223,8 @@ impl HeldQueue {
 
     /// `msgrcv` with IPC_NOWAIT, where nobody waits: the message that the type asks for is taken and its text cut to
     /// `size` bytes, and its receiver is the last receiver. ENOMSG: there is no such message. E2BIG: its text is above
-    /// `size` bytes and `noerror` (MSG_NOERROR) isn't set. Memory: an allocation was refused. A refusal changes nothing.
+    /// `size` bytes and `noerror` (MSG_NOERROR) isn't set. Memory: an allocation was refused. A refusal changes
+    /// nothing.
     pub fn receive(
         &mut self,
         pid: Pid,

@@ -6,6 +6,10 @@ pub returns-clause-refused : goal.returns-clause-refused
 returns-clause-refused c =
     let range = c.ranges.class in
     elim c.match-self.branch [
-      | in-Linked w ↦ rw (w.result-is, ← c.self.view_is, w.in-Linked.is) (simp to_z-of_z at w.send.ensures.refused)
-      | in-Packed w ↦ rw (w.result-is, ← c.self.view_is, w.in-Packed.is) (simp to_z-of_z at w.send-in-Packed.ensures.refused)
+      | in-Linked w ↦
+          rw (w.result-is, ← c.self.view_is, w.in-Linked.is)
+          (simp to_z-of_z at w.send.ensures.refused)
+      | in-Packed w ↦
+          rw (w.result-is, ← c.self.view_is, w.in-Packed.is)
+          (simp to_z-of_z at w.send-in-Packed.ensures.refused)
     ]

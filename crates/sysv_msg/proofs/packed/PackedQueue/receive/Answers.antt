@@ -12,9 +12,11 @@ returns-in_default-clause-refused c =
     let ms : List Message = messages_in c.self.inside.count b in
     let read : message_at b ≡ None = ap message_at (sym c.as_slice.ensures) ∙ c.in_default.ensures.read in
     let none = none-there c.self.inside.count c.self.inside.size b ms c.self.invariant.1 read in
+    let front : select ms c.args.class ≡ front_of ms =
+    subst (λ (q : Queue). select q.messages c.args.class ≡ front_of q.messages) (sym c.self.view_is) c.requires in
     rw (← c.self.view_is)
     (receives-none (queue_of c.self.inside.qbytes c.self.inside.last_sender c.self.inside.last_receiver ms)
-    c.args.pid c.args.class c.args.size c.args.noerror none (subst (λ (q : Queue). select q.messages c.args.class ≡ front_of q.messages) (sym c.self.view_is) c.requires))
+    c.args.pid c.args.class c.args.size c.args.noerror none front)
 
 pub returns-then-not-fits-clause-refused : goal.returns-then-not-fits-clause-refused
 returns-then-not-fits-clause-refused c =
@@ -24,9 +26,11 @@ returns-then-not-fits-clause-refused c =
     let read : message_at b ≡ Some (m, c.in-Some.rest.now) =
     ap message_at (sym c.as_slice.ensures) ∙ c.in-Some.ensures.read in
     let f = front-there c.self.inside.count c.self.inside.size b c.in-Some.rest.now ms m c.self.invariant.1 read in
+    let front : select ms c.args.class ≡ front_of ms =
+    subst (λ (q : Queue). select q.messages c.args.class ≡ front_of q.messages) (sym c.self.view_is) c.requires in
     rw (← c.self.view_is)
     (receives-long (queue_of c.self.inside.qbytes c.self.inside.last_sender c.self.inside.last_receiver ms)
-    c.args.pid c.args.class c.args.size c.args.noerror m f.others f.is (subst (λ (q : Queue). select q.messages c.args.class ≡ front_of q.messages) (sym c.self.view_is) c.requires)
+    c.args.pid c.args.class c.args.size c.args.noerror m f.others f.is front
     (sym c.fits.ensures ∙ c.if-not-fits.true))
 
 pub keep-requires : goal.keep-requires
@@ -87,9 +91,11 @@ returns-clause-taken c =
     messages-are (n - 1) (c.self.inside.size - length c.in-Some.text.now) c.keep.new.self f.others
     (subst (λ (r : List ℕ). Holds (n - 1) (c.self.inside.size - length c.in-Some.text.now) r f.others) (sym kept)
     f.left) in
+    let front : select ms c.args.class ≡ front_of ms =
+    subst (λ (q : Queue). select q.messages c.args.class ≡ front_of q.messages) (sym c.self.view_is) c.requires in
     rw (← c.self.view_is)
     (receives-first (queue_of c.self.inside.qbytes c.self.inside.last_sender c.self.inside.last_receiver ms)
     c.args.pid c.args.class c.args.size c.args.noerror m f.others (messages_in (n - 1) c.keep.new.self)
-    (to_z w32 (of_z w32 c.in-Some.kind)) c.cut.result f.is (subst (λ (q : Queue). select q.messages c.args.class ≡ front_of q.messages) (sym c.self.view_is) c.requires)
+    (to_z w32 (of_z w32 c.in-Some.kind)) c.cut.result f.is front
     (sym c.fits.ensures ∙ c.if-not-fits.false) left (to_z-of_z w32 c.in-Some.kind fits)
     (c.cut.ensures ∙ ap (λ (t : List ℕ). take c.args.size t) c.in-Ok.ensures))
