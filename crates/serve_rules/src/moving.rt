@@ -118,19 +118,12 @@ fn note_all(step: &mut Growing, name: &Name, readers: &[Node]) -> Result<(), Mem
     }
 }
 
-/// The node, if it reads, and behind it the others.
-fn all_readers(
-    alloc: Global,
-    caller: Node,
-    reads: bool,
-    readers: &[Node],
-) -> Result<Vec<Node>, Memory>
-    ensures { IfOk result (λ nodes. nodes.items ≡ nodes_with caller reads readers.now) }
+/// The node, and behind it the others.
+fn all_readers(alloc: Global, caller: Node, readers: &[Node]) -> Result<Vec<Node>, Memory>
+    ensures { IfOk result (λ nodes. nodes.items ≡ caller ∷ readers.now) }
 {
-    let mut nodes = Vec::with_capacity(alloc, readers.len())?;
-    if reads {
-        nodes.push(caller)?;
-    }
+    let mut nodes = Vec::new(alloc);
+    nodes.push(caller)?;
     nodes.extend_from_slice(readers)?;
     Ok(nodes)
 }
@@ -163,9 +156,12 @@ pub(crate) fn note_reads(
     ensures { OnOk result
         (step_of step.new ≡ note_reads (step_of step.old) name.now (nodes_with caller reads readers.now)) }
 {
-    if readers.len() > 0 {
-        let nodes = all_readers(step.node.alloc, caller, reads, readers)?;
-        return note_all(step, name, nodes.as_slice());
+    if readers.len() == 0 {
+        return note_caller(step, name, caller, reads);
     }
-    note_caller(step, name, caller, reads)
+    if !reads {
+        return note_all(step, name, readers);
+    }
+    let nodes = all_readers(step.node.alloc, caller, readers)?;
+    note_all(step, name, nodes.as_slice())
 }
