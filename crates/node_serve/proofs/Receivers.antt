@@ -14,12 +14,16 @@ use Rattle.waiting_model.specs.Waiters.{Attempt, Awaited, Carried, Ready, Settle
 use Rattle.waiting_model.specs.declared.callers.Applied.{Applied}
 use Rattle.waiting_model.specs.declared.callers.Waiting.{Waiting}
 use Rattle.waiting_model.specs.declared.callers.Wake.{Wake}
-use Rattle.sysv_msg.specs.Limits.{AreParked, IsParked, is_receive, may_wait}
+use Rattle.sysv_msg.specs.Limits.{AreParked, IsParked, may_wait}
 use Rattle.sysv_sem.specs.Calls.{carried_to}
 use Rattle.node_model.specs.Serving.{has_read, woken_reads}
 use Rattle.node_serve.specs.Serving.{gives_message}
 
 -- ---- who is given a message
+
+abbrev is_receive : Call → Bool
+is_receive (calls.MsgRcv id class size noerror nowait) = true
+is_receive call = false
 
 receive-reads : (call : Call) (reply : Reply) → may_wait call ≡ true
     → has_read call reply ≡ (is_receive call && gives_message reply)
