@@ -44,14 +44,16 @@ served-makes-nothing (calls.MsgGet key create excl) s = differ s
 served-makes-nothing (calls.SemGet key count create excl) s = differ s
 served-makes-nothing call s = refl
 
-record HasEffect (o : Option Effect) : Type 0 where
-  made : Effect
-  is : o ≡ Some made
+-- a call that may be served has this effect
+pub record HasEffect (o : Option Effect) : Type 0 where
+  pub made : Effect
+  pub is : o ≡ Some made
 
 has : (e : Effect) → HasEffect (Some e)
 has e = record { made = e; is = refl }
 
-has-effect : (k : Kernel) (who : Waiting) (a : Alive) (n : ℕ) (call : Call) → may_be_served call ≡ true
+-- every call that may be served has one
+pub has-effect : (k : Kernel) (who : Waiting) (a : Alive) (n : ℕ) (call : Call) → may_be_served call ≡ true
     → HasEffect (effect_by k who a call n)
 has-effect k who a n (calls.Fork block) s = differ s
 has-effect k who a n (calls.Exit status) s = differ s
@@ -88,13 +90,15 @@ filter_same p q (w ∷ ws) same = rw (same.0, filter_same p q ws same.1) refl
 
 -- ---- by the definition
 
-buried : (own : Option Reply) (m : Named Body) → bodies_of (bury_found own m) ≡ put_all (bodies_of m) (found_gone own)
+-- the child that a call found is gone, as the definition has it
+pub buried : (own : Option Reply) (m : Named Body) → bodies_of (bury_found own m) ≡ put_all (bodies_of m) (found_gone own)
 buried (Some (replies.Child child ending)) m = bodies-put m (Proc child) Gone
 buried (Some r) m = refl
 buried None m = refl
 
 module _ (old : Named Body) (who : Waiting) (served : may_be_served who.call ≡ true) where
-  looked-up : (o : Option Name) → name_for who.pid who.call ≡ o
+  -- serving is looking up the call's name
+  pub looked-up : (o : Option Name) → name_for who.pid who.call ≡ o
       → definition.serve (bodies_of old) who ≡ serve_at (bodies_of old) who o
   looked-up o is =
       ap (λ (b : Bool). if b then None else serve_at (bodies_of old) who (name_for who.pid who.call))

@@ -4,6 +4,8 @@ pub mod Commits
 pub mod Defined
 pub mod InKernel
 pub mod KernelLemmas
+pub mod Making
+pub mod OwnRows
 pub mod Parcels
 pub mod Prompts
 pub mod Reading

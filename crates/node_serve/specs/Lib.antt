@@ -2,6 +2,7 @@ pub mod Bodies
 pub mod Callers
 pub mod Ending
 pub mod Laws
+pub mod Own
 pub mod Prompt
 pub mod Read
 pub mod Serving

@@ -30,7 +30,7 @@ use waiter_fields::MAX_WAITERS;
 use waiting_model::{Applied, Wakes};
 
 /// Whether the call is the caller's own affair.
-fn is_own(caller: Pid, call: &Call) -> bool
+pub(crate) fn is_own(caller: Pid, call: &Call) -> bool
     ensures { result ≡ is_own caller call.now }
 {
     matches!(home(caller, call), Home::Own)

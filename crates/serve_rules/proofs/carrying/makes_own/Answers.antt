@@ -1,4 +1,4 @@
-use Rattle.serve_rules.proofs.Making.{makes-own}
+use Rattle.node_serve.proofs.Making.{makes-own}
 use Rattle.serve_rules.proofs.carrying.makes_own.Goals as goal
 
 pub returns-in-Living : goal.returns-in-Living
