@@ -1,5 +1,5 @@
 -- A call of a process on its own row, by the definition of a served call.
-use Rattle.std.proofs.Common.{◌≡◌, ◌∙◌, ℕ, Bool, true, false, not, ◌||◌, List, [], ◌∷◌, ◌++◌, map, Option, Some, None, refl, sym, ap, subst}
+use Rattle.std.proofs.Common.{◌≡◌, ◌∙◌, ℕ, Bool, true, false, not, ◌||◌, List, [], ◌∷◌, ◌++◌, map, Option, Some, None, refl, sym, ap}
 use Rattle.std.specs.List.{filter}
 use Rattle.std.specs.Option.{option_and_then, option_map, option_map_or}
 use Rattle.pico_base.specs.declared.call.Call.{Call}
@@ -19,7 +19,7 @@ use Rattle.deed_box.specs.Deeds.{AreRising}
 use Rattle.node_model.specs.Awaiting.{Applied, in_whole, on_own, on_whole, reap}
 use Rattle.node_model.specs.Bodies as model
 use Rattle.node_model.specs.Bodies.{fits_name, kernel_with, waiters_of}
-use Rattle.node_model.specs.Carrying.{is_own, is_own_home, is_removal}
+use Rattle.node_model.specs.Carrying.{is_own_home, is_removal}
 use Rattle.node_model.specs.Kinds.{Named, get_named, put_all, put_named}
 use Rattle.node_model.specs.Serving as definition
 use Rattle.node_model.specs.Serving.{actor, admits, caller_if, has_read, has_read_if, name_for, name_in, serve_by, serve_on, woken_reads}
@@ -29,7 +29,7 @@ use Rattle.node_serve.specs.declared.body.Body.{Body}
 use Rattle.node_serve.specs.declared.body.Body.TheVariants.{Living}
 use Rattle.node_serve.specs.declared.body.Row.{Row}
 use Rattle.node_serve.specs.Bodies.{bodies_of, body_of, row_of}
-use Rattle.node_serve.specs.Own.{AnswersOwnOr, HasOwn, HasOwnOr, IsOwn, OwnOr, is_on_own_row, unread}
+use Rattle.node_serve.specs.Own.{AnswersOwnOr, HasOwn, HasOwnOr, OwnOr, is_on_own_row, unread}
 use Rattle.node_serve.specs.Prompt.{IsAnswered}
 use Rattle.node_serve.specs.Serving.{bury_found, may_be_served}
 use Rattle.node_serve.specs.Waits.{alone}

@@ -8,6 +8,7 @@ ghost use Rattle.node_state.specs.State.{node_of, step_of};
 
 use crate::carrying::{Held, serve_held};
 use crate::serving::{wait_or_wake, who_starts};
+use node_serve::reply_on_own;
 use node_state::forms::may_park;
 use node_state::{Growing, unreached};
 use pico_base::{Call, Memory, Name, Script};
@@ -49,11 +50,8 @@ pub fn act_lent(step: &mut Growing, script: &Script, call: &Call) -> Result<(), 
     ensures { OnOk result
         (act script.now (started (step_of step.old) call.now) call.now ≡ Some (step_of step.new)) }
 {
-    let alloc = step.node.alloc;
     let who = who_starts(&step.node);
-    let name = Name::Proc(step.node.pid);
-    let served = serve_held(alloc, &mut step.node.deeds, &name, &who, call)?;
-    let Held::AtOnce { reply, .. } = served else {
+    let Some(reply) = reply_on_own(&mut step.node.deeds, &who, call)? else {
         return Err(unreached());
     };
     let Some(copy) = copy_own(call) else {
