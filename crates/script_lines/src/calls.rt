@@ -19,7 +19,6 @@ fn value(vars: &[(Var, u32)], variable: Var) -> u32
 }
 
 /// A call with this number for the process or the object that it names, where it names one.
-#[inline(always)]
 pub fn call_naming(alloc: Global, call: &Call, number: u32) -> Result<Call, Memory>
     ensures { IfOk result (λ made. made ≡ with_target call.now number) }
 {
