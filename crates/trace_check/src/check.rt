@@ -7,7 +7,7 @@ ghost use Rattle.trace_check.specs.FirstFault.{CountsLegal, Gives, IsLegalTrace,
 use crate::judge::Judge;
 use pico_base::Script;
 use std::alloc::Global;
-use trace_text::{CheckFault, MAX_TRACE, entry_in, fits, next_line};
+use trace_text::{CheckFault, MAX_TRACE, fits, next_line};
 use waiting_laws::{entries_move_marks, entries_wake_rightly};
 
 /// The bytes are the text, with any nodes, of a history that is legal and fits the script whole.
@@ -38,10 +38,7 @@ fn judge(alloc: Global, script: &Script, bytes: &[u8], first_line: u32) -> Resul
         if judge.is_totals(text, &mut scratch)? {
             return judge.totals(script, line, line - first_line, after);
         }
-        let Some(entry) = entry_in(alloc, script, text, &mut scratch)? else {
-            return Err(CheckFault::NotATrace { line });
-        };
-        match judge.entry(script, line, &entry) {
+        match judge.line(script, line, text, &mut scratch) {
             Ok(()) => (),
             Err(fault) => return Err(fault),
         }

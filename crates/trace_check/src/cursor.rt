@@ -56,6 +56,14 @@ impl Cursor {
         Ok(Some(self.caller.due(script, None)?))
     }
 
+    /// The call of the script that is due, where it names no variable.
+    pub(crate) fn written_call<'a>(&self, script: &'a Script) -> Option<&'a Call>
+        requires { IsTrue (is_some (due (place_of script.now self.now))) }
+        ensures { IfSome (option_copied result) (λ call. due (place_of script.now self.now) ≡ Some call) }
+    {
+        self.caller.written_call(script)
+    }
+
     /// Whether the call found is the one that is due. One that names no variable is looked at where it stands in the
     /// script.
     pub(crate) fn is_due(

@@ -14,6 +14,8 @@ ghost use Rattle.trace_check.specs.Cursors.{AreSteady, IsSteady, MayMake, MayMak
 ghost use Rattle.trace_check.specs.FirstFault.{Gives, first_going, judge_entry, judge_made, judge_outcome, judge_totals};
 ghost use Rattle.trace_check.specs.Judging.{Carried, Yields, so_far_of};
 
+mod lines;
+
 use crate::check::Legal;
 use crate::cursor::Cursor;
 use crate::due::{Cursors, due_in, first_going, last_doom, may_come};

@@ -1,10 +1,12 @@
 -- What the totals line counts of a history.
 use Rattle.std.specs.Prelude.{◌≡◌, ℕ, ◌+◌, pos, true, false, List, [], ◌∷◌, length, if◌then◌else◌, Some, None, codes, count_by, sum_by, refl}
 use Rattle.std.specs.Fmt.{digits}
+use Rattle.pico_base.specs.declared.call.Call.{Call}
 use Rattle.pico_base.specs.declared.call.Call.TheVariants.{Fork, Kill, MsgRcv, MsgRmid}
 use Rattle.pico_base.specs.declared.reply.Reply.TheVariants.{Num, Fail}
 use Rattle.pico_base.specs.declared.reply.Errno.TheVariants.{Esrch, Enomsg, Eidrm}
 use Rattle.pico_base.specs.declared.reply.Entry.{Entry}
+use Rattle.pico_base.specs.declared.reply.Outcome.{Outcome}
 use Rattle.pico_base.specs.declared.signal.SigArg.TheVariants.{Zero}
 use Rattle.kernel_model.specs.Effect.{reply_alone}
 use Rattle.kernel_model.specs.Trace.{is_fork, is_not_ready_reply, is_refused_reply, replies_where, totals_line, entries_total, processes_total, not_ready_total, refused_total}
@@ -29,15 +31,18 @@ counts_of h =
 unfoldable pub tally_of : List Entry → Counts
 tally_of h = counts_of h
 
--- the counts with one more entry
-abbrev pub with_entry : Counts → Entry → Counts
-with_entry c e =
+-- the counts with one more entry, of this call with this outcome
+abbrev pub with_made : Counts → Call → Outcome → Counts
+with_made c call outcome =
     record {
       entries = c.entries + 1;
-      forks = c.forks + (if is_fork e.call then 1 else 0);
-      not_ready = c.not_ready + replies_where is_not_ready_reply e.outcome;
-      refused = c.refused + replies_where is_refused_reply e.outcome;
+      forks = c.forks + (if is_fork call then 1 else 0);
+      not_ready = c.not_ready + replies_where is_not_ready_reply outcome;
+      refused = c.refused + replies_where is_refused_reply outcome;
     }
+
+abbrev pub with_entry : Counts → Entry → Counts
+with_entry c e = with_made c e.call e.outcome
 
 -- Examples.
 

@@ -56,7 +56,7 @@ fn own(alloc: Global, bytes: &[u8]) -> Result<Option<(Option<Reply>, &[u8])>, Me
 
 /// The node that carried the call out.
 #[tactic(auto, unfolding(crate::specs::Reading::by_at))]
-fn by(bytes: &[u8]) -> Option<(Node, &[u8])>
+pub(crate) fn by(bytes: &[u8]) -> Option<(Node, &[u8])>
     ensures { option_map (λ x. (x.0, x.1.now)) result ≡ reading.by_at bytes.now }
 {
     let rest = strip_front(bytes, b" by ")?;

@@ -3,6 +3,7 @@
 
 mod calls;
 mod entries;
+mod expected;
 mod fault;
 mod fields;
 mod grammar;
@@ -20,6 +21,7 @@ mod text;
 mod totals;
 
 pub use entries::{entry_in, is_line};
+pub use expected::{behind_call, is_end};
 pub use fault::CheckFault;
 pub use fields::push_values;
 pub use grammar::{is_call, is_outcome, is_reply};

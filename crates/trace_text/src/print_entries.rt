@@ -12,7 +12,7 @@ use crate::print_replies::push_reply;
 use crate::text::{has_room, push, push_byte, push_growing, push_number_then};
 use pico_base::{Call, Entry, Memory, Node, Outcome, Pid, Reply, Script};
 
-fn push_own(out: &mut Vec<u8>, own: &Option<Reply>) -> Result<(), Memory>
+pub(crate) fn push_own(out: &mut Vec<u8>, own: &Option<Reply>) -> Result<(), Memory>
     ensures { OnOk result (out.new.items ≡ out.old.items ++ trace.own_text own.now) }
 {
     match own {
@@ -22,7 +22,7 @@ fn push_own(out: &mut Vec<u8>, own: &Option<Reply>) -> Result<(), Memory>
 }
 
 // Who made which call.
-fn push_made(out: &mut Vec<u8>, script: &Script, pid: Pid, call: &Call) -> Result<(), Memory>
+pub(crate) fn push_made(out: &mut Vec<u8>, script: &Script, pid: Pid, call: &Call) -> Result<(), Memory>
     ensures { OnOk result (out.new.items ≡ out.old.items ++ trace.made_text script.now pid call.now) }
 {
     push_number_then(out, u64::from(pid.0), b' ')?;
@@ -107,7 +107,7 @@ fn push_by_and_wakes(out: &mut Vec<u8>, node: Node, woken: &[(Pid, Reply)]) -> R
     push_byte(out, b'\n')
 }
 
-fn push_by(out: &mut Vec<u8>, node: Node, woken: &[(Pid, Reply)]) -> Result<(), Memory>
+pub(crate) fn push_by(out: &mut Vec<u8>, node: Node, woken: &[(Pid, Reply)]) -> Result<(), Memory>
     ensures { OnOk result (out.new.items ≡ out.old.items ++ trace.by_text node woken.now) }
 {
     if woken.is_empty() {
@@ -193,7 +193,7 @@ fn push_digit_end(out: &mut Vec<u8>, number: u8, node: Node) -> Result<(), Memor
 
 // What stands in front of what a call came to.
 #[inline(always)]
-fn push_equals(out: &mut Vec<u8>) -> Result<(), Memory>
+pub(crate) fn push_equals(out: &mut Vec<u8>) -> Result<(), Memory>
     ensures { OnOk result (out.new.items ≡ out.old.items ++ codes " = ") }
 {
     if has_room(out, 3) {

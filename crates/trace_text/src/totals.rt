@@ -1,8 +1,8 @@
 //! The totals line of a history: what it counts, and its text.
-ghost use Rattle.std.specs.Prelude.{◌≡◌, false, List, [], ◌++◌, Some, if◌then◌else◌, IfOk, OnOk, IsTrue};
+ghost use Rattle.std.specs.Prelude.{◌≡◌, false, List, [], ◌∷◌, ◌++◌, Some, if◌then◌else◌, IfOk, OnOk, IsTrue};
 ghost use Rattle.kernel_model.specs.Trace as trace;
 ghost use Rattle.pico_base.specs.declared.reply.Entry.{Entry};
-ghost use Rattle.trace_text.specs.Totals.{tally_of, with_entry};
+ghost use Rattle.trace_text.specs.Totals.{tally_of, with_made};
 
 use crate::fields::push_labelled;
 use crate::text::push_byte;
@@ -10,10 +10,10 @@ use pico_base::{Bytes, Call, Entries, Entry, Errno, Memory, Outcome, Reply};
 use std::alloc::Global;
 use std::marker::Model;
 
-fn is_fork(entry: &Entry) -> bool
-    ensures { result ≡ trace.is_fork entry.now.call }
+fn is_fork(call: &Call) -> bool
+    ensures { result ≡ trace.is_fork call.now }
 {
-    matches!(entry.call, Call::Fork { .. })
+    matches!(call, Call::Fork { .. })
 }
 
 fn is_failure(own: &Option<Reply>) -> bool
@@ -23,13 +23,13 @@ fn is_failure(own: &Option<Reply>) -> bool
     matches!(own, Some(Reply::Fail(_)))
 }
 
-// Whether an entry counts only as an entry: it doesn't fork, isn't refused, and wakes nobody.
-fn is_plain(entry: &Entry) -> bool
-    ensures fork { IsTrue result → trace.is_fork entry.now.call ≡ false }
-    ensures not_ready { IsTrue result → trace.replies_where trace.is_not_ready_reply entry.now.outcome ≡ 0 }
-    ensures refused { IsTrue result → trace.replies_where trace.is_refused_reply entry.now.outcome ≡ 0 }
+// Whether a call with this outcome counts only as an entry: it doesn't fork, isn't refused, and wakes nobody.
+fn is_plain(call: &Call, outcome: &Outcome) -> bool
+    ensures fork { IsTrue result → trace.is_fork call.now ≡ false }
+    ensures not_ready { IsTrue result → trace.replies_where trace.is_not_ready_reply outcome.now ≡ 0 }
+    ensures refused { IsTrue result → trace.replies_where trace.is_refused_reply outcome.now ≡ 0 }
 {
-    !is_fork(entry) && !is_failure(&entry.outcome.own) && entry.outcome.woken.as_slice().is_empty()
+    !is_fork(call) && !is_failure(&outcome.own) && outcome.woken.as_slice().is_empty()
 }
 
 // ENOMSG or EAGAIN: nothing was ready.
@@ -141,12 +141,12 @@ impl Tally {
         }
     }
 
-    // Counts one more entry. Most count only as an entry.
-    fn add_entry(&mut self, entry: &Entry) -> Result<(), Memory>
-        ensures { OnOk result (self.new ≡ with_entry self.old entry.now) }
+    // Counts one more entry, by its call and its outcome. Most count only as an entry.
+    fn add_made(&mut self, call: &Call, outcome: &Outcome) -> Result<(), Memory>
+        ensures { OnOk result (self.new ≡ with_made self.old call.now outcome.now) }
     {
-        if !is_plain(entry) {
-            return self.add_counted(entry);
+        if !is_plain(call, outcome) {
+            return self.add_counted(call, outcome);
         }
         self.entries = self.entries.checked_add(1).ok_or(Memory)?;
         Ok(())
@@ -154,14 +154,14 @@ impl Tally {
 
     // Counts one more entry, and what else it counts as.
     #[inline(never)]
-    fn add_counted(&mut self, entry: &Entry) -> Result<(), Memory>
-        ensures { OnOk result (self.new ≡ with_entry self.old entry.now) }
+    fn add_counted(&mut self, call: &Call, outcome: &Outcome) -> Result<(), Memory>
+        ensures { OnOk result (self.new ≡ with_made self.old call.now outcome.now) }
     {
-        let more = refusals_of(&entry.outcome);
+        let more = refusals_of(outcome);
         self.entries = self.entries.checked_add(1).ok_or(Memory)?;
         self.forks = self
             .forks
-            .checked_add(u64::from(is_fork(entry)))
+            .checked_add(u64::from(is_fork(call)))
             .ok_or(Memory)?;
         self.not_ready = self
             .not_ready
@@ -171,13 +171,22 @@ impl Tally {
         Ok(())
     }
 
+    /// Counts the history's next entry, of which the call and its outcome are enough. Memory: a count is past 64 bits, and
+    /// nothing is said of the tally then.
+    pub fn add_call(&mut self, call: &Call, outcome: &Outcome) -> Result<(), Memory>
+        ensures { (before : List Entry) (e : Entry) → e.call ≡ call.now → e.outcome ≡ outcome.now
+            → self.old ≡ tally_of before → OnOk result (self.new ≡ tally_of (before ++ e ∷ [])) }
+    {
+        self.add_made(call, outcome)
+    }
+
     /// Counts the history's next entries. Memory: a count is past 64 bits, and nothing is said of the tally then.
     pub fn add(&mut self, entries: &[Entry]) -> Result<(), Memory>
         ensures { (before : List Entry) → self.old ≡ tally_of before
             → OnOk result (self.new ≡ tally_of (before ++ entries.now)) }
     {
         for entry in entries {
-            self.add_entry(entry)?;
+            self.add_made(&entry.call, &entry.outcome)?;
         }
         Ok(())
     }
