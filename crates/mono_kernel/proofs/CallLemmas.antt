@@ -1,9 +1,11 @@
 -- A whole call: its effect, the caller's own marks, and the outcome.
-use Rattle.std.proofs.Common.{◌≡◌, ◌↔◌, ◌∙◌, ℕ, Bool, true, false, if◌then◌else◌, List, Option, Some, None, is_some, IsSome, IfSome, Result, Ok, Err, refl, sym, ap}
+use Rattle.std.proofs.Common.{◌≡◌, ◌↔◌, ◌∙◌, ℕ, Bool, true, false, if◌then◌else◌, List, [], Option, Some, None, is_some, IsSome, IfSome, Result, Ok, Err, refl, sym, ap, subst}
 use Rattle.std.specs.Option.{option_map_or}
 use Rattle.pico_base.specs.declared.call.Call.{Call}
+use Rattle.pico_base.specs.declared.call.Call.TheVariants.{GetPid}
 use Rattle.pico_base.specs.declared.reply.Outcome.{Outcome}
 use Rattle.pico_base.specs.declared.reply.Reply.{Reply}
+use Rattle.pico_base.specs.declared.reply.Reply.TheVariants.{Num}
 use Rattle.waiting_model.specs.Calls.{withdrawn_from}
 use Rattle.waiting_model.specs.Waiters.{waiter}
 use Rattle.waiting_model.specs.Marks.{Alive}
@@ -11,6 +13,7 @@ use Rattle.waiting_model.specs.Kernel.{Kernel, living_at}
 use Rattle.waiting_model.specs.Effect.{Effect, outcome_of_effect}
 use Rattle.waiting_model.specs.Transition.{Successor, successor, effect, may_make, finish_call, outcome_of, step_by, transition, transition_by}
 use Rattle.mono_kernel.specs.declared.done.Done.{Done}
+use Rattle.mono_kernel.specs.declared.done.Done.TheVariants.{Replies}
 use Rattle.mono_kernel.specs.declared.fault.CallFault.{CallFault}
 use Rattle.mono_kernel.specs.declared.fault.CallFault.TheVariants.{Memory, NotAllowed}
 use Rattle.mono_kernel.specs.Answers.{Answers, FinishesWith, IsDone}
@@ -143,3 +146,28 @@ module _ (k : Kernel) (pid : ℕ) (call : Call) (n : ℕ) (plain : withdrawn_fro
   fault-is mid Memory allowed answer =
       let could = could-be-made mid allowed answer
       in (((λ same. absurd (cc)), (λ none. absurd (could.0 none))), could.1)
+
+-- getpid by a process that may make it
+pub own-number : (k new : Kernel) (pid n : ℕ) (outcome : Outcome)
+    → option_map_or (λ a. may_make a GetPid) (living_at k pid) false ≡ true
+    → FinishesWith k pid (Replies (Num pid) []) new outcome
+    → transition k pid GetPid n ≡ Some (successor new outcome)
+own-number k new pid n outcome may f =
+    made-whole k pid GetPid n refl k new (Replies (Num pid) []) outcome may (at (living_at k pid)) f
+  where
+    at : (o : Option Alive)
+        → IfSome o (λ a. Answers (effect k (waiter pid GetPid) a n) GetPid (Ok (Replies (Num pid) [])) k k)
+    at None = tt
+    at (Some a) = record { kernel = refl; own = refl; woken = refl; parks = tt }
+
+-- and by its form, whoever may make that call
+pub own-number-of : (k new : Kernel) (pid n : ℕ) (outcome : Outcome) (call : Call) → call ≡ GetPid
+    → ((chosen : ℕ) → transition k pid GetPid chosen ≡ Some (successor new outcome))
+    → transition k pid call n ≡ Some (successor new outcome)
+own-number-of k new pid n outcome call is h = subst (λ (c : Call). transition k pid c n ≡ Some (successor new outcome))
+    (sym is) (h n)
+
+pub may-own : (k : Kernel) (pid : ℕ) (call : Call) → call ≡ GetPid
+    → option_map_or (λ a. may_make a call) (living_at k pid) false ≡ true
+    → option_map_or (λ a. may_make a GetPid) (living_at k pid) false ≡ true
+may-own k pid call is h = subst (λ (c : Call). option_map_or (λ a. may_make a c) (living_at k pid) false ≡ true) is h

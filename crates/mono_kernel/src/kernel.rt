@@ -1,5 +1,5 @@
 //! The whole kernel as a plain program, one call at a time.
-ghost use Rattle.std.specs.Prelude.{◌≡◌, ◌↔◌, false, IfOk, OnErr, IsErrOf, IsSome, IfSome, Some, None};
+ghost use Rattle.std.specs.Prelude.{◌≡◌, ◌↔◌, ℕ, false, IfOk, OnErr, IsErrOf, IsSome, IsTrue, IfSome, Some, None};
 ghost use Rattle.std.specs.Option.{option_map_or};
 ghost use Rattle.number_maps.specs.Maps.{get};
 ghost use Rattle.waiting_model.specs.Calls.{withdrawn_from};
@@ -116,10 +116,22 @@ impl Kernel {
         if !self.may_make(pid, call) {
             return Err(CallFault::NotAllowed);
         }
+        if let Call::GetPid = call {
+            return Ok(self.own_number(pid));
+        }
         match self.carry_out(pid, call, chosen) {
             Ok(done) => Ok(self.finish(pid, done)),
             Err(fault) => Err(fault),
         }
+    }
+
+    /// getpid, which changes nothing but the caller's marks. It stands apart from all that other calls need.
+    #[inline(never)]
+    fn own_number(&mut self, pid: Pid) -> Outcome
+        requires { IsTrue (option_map_or (λ a. may_make a Call.GetPid) (living_at self.old pid) false) }
+        ensures { (chosen : ℕ) → transition self.old pid Call.GetPid chosen ≡ Some (successor self.new result) }
+    {
+        self.finish(pid, Done::alone(self.alloc, number_of(pid)))
     }
 
     /// Whether the process lives and may make this call.

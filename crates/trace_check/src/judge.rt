@@ -14,7 +14,7 @@ ghost use Rattle.trace_check.specs.Cursors.{AreSteady, IsSteady, MayMake, MayMak
 ghost use Rattle.trace_check.specs.FirstFault.{Gives, first_going, judge_entry, judge_made, judge_outcome, judge_totals};
 ghost use Rattle.trace_check.specs.Judging.{Carried, Yields, so_far_of};
 
-mod lines;
+pub(crate) mod lines;
 
 use crate::check::Legal;
 use crate::cursor::Cursor;
@@ -35,6 +35,7 @@ pub(crate) struct Judge {
     cursors: Cursors,
     tally: Tally,
     texts: Texts,
+    other: Option<Outcome>,
 }
 
 /// The number that a call with this reply may have created: the one in it, and else 0.
@@ -273,6 +274,7 @@ impl Judge {
             cursors,
             tally: Tally::new(),
             texts: Texts::new(alloc),
+            other: None,
         })
     }
 

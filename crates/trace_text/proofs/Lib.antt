@@ -3,8 +3,10 @@ pub mod Appends
 pub mod CallLaws
 pub mod CallText
 pub mod EntryLaws
+pub mod Decimals
 pub mod Digits
 pub mod Escapes
+pub mod ExpectedLaws
 pub mod Feeds
 pub mod Joined
 pub mod Members

@@ -3,9 +3,11 @@ use Rattle.std.proofs.Common.{◌≡◌, ◌∙◌, ℕ, ◌+◌, Bool, cond, Li
 use Rattle.std.specs.List.{fold}
 use Rattle.std.proofs.lemmas.List.{length-append, take_more}
 use Rattle.std.proofs.lemmas.List.Sums.{sum_by_push}
+use Rattle.pico_base.specs.declared.call.Call.{Call}
 use Rattle.pico_base.specs.declared.reply.Entry.{Entry}
+use Rattle.pico_base.specs.declared.reply.Outcome.{Outcome}
 use Rattle.kernel_model.specs.Trace.{is_fork, is_not_ready_reply, is_refused_reply, replies_where}
-use Rattle.trace_text.specs.Totals.{Counts, counts_of, tally_of, with_entry}
+use Rattle.trace_text.specs.Totals.{Counts, counts_of, tally_of, with_made, with_entry}
 
 fold-push : (f : ℕ → Entry → ℕ) (n : ℕ) (es : List Entry) (e : Entry) → fold f n (es ++ e ∷ []) ≡ f (fold f n es) e
 fold-push f n [] e = refl
@@ -29,6 +31,14 @@ counts-with_entry before e =
 pub tally-with_entry : (before : List Entry) (e : Entry) → with_entry (tally_of before) e ≡ tally_of (before ++ e ∷ [])
 unfolding tally_of
 tally-with_entry before e = counts-with_entry before e
+
+-- an entry is counted by its call and its outcome
+pub tally-made : (before : List Entry) (e : Entry) (call : Call) (outcome : Outcome) (old new : Counts)
+    → e.call ≡ call → e.outcome ≡ outcome → old ≡ tally_of before → new ≡ with_made old call outcome
+    → new ≡ tally_of (before ++ e ∷ [])
+tally-made before e call outcome old new c o counted more =
+    more ∙ ap (λ (x : Counts). with_made x call outcome) counted ∙ ap (with_made (tally_of before) call) (sym o)
+    ∙ ap (λ (x : Call). with_made (tally_of before) x e.outcome) (sym c) ∙ tally-with_entry before e
 
 -- the entries up to one are counted, and then that one
 pub tally-take : (before entries : List Entry) (i : ℕ) (e : Entry) (so_far new : Counts) → i < length entries

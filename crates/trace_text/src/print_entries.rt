@@ -22,7 +22,7 @@ pub(crate) fn push_own(out: &mut Vec<u8>, own: &Option<Reply>) -> Result<(), Mem
 }
 
 // Who made which call.
-pub(crate) fn push_made(out: &mut Vec<u8>, script: &Script, pid: Pid, call: &Call) -> Result<(), Memory>
+fn push_made(out: &mut Vec<u8>, script: &Script, pid: Pid, call: &Call) -> Result<(), Memory>
     ensures { OnOk result (out.new.items ≡ out.old.items ++ trace.made_text script.now pid call.now) }
 {
     push_number_then(out, u64::from(pid.0), b' ')?;

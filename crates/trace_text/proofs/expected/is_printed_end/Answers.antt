@@ -1,0 +1,13 @@
+use Rattle.std.proofs.Common.{◌≡◌, ◌∙◌, [], sym}
+use Rattle.trace_text.proofs.ExpectedLaws.{printed-ends, cleared}
+use Rattle.trace_text.proofs.expected.is_printed_end.Goals as goal
+
+pub returns : goal.returns
+returns c = λ is.
+    printed-ends c.args.outcome.now c.in-Some-by.node c.args.rest.now c.in-Some.behind.now c.in-Some-by.field-0-1.now
+    c.deref.result.now c.deref-2.result.now (sym c.is_outcome.ensures ∙ c.if-not-is_outcome.false)
+    (cleared c.clear.ensures.items (c.deref.ensures.value ∙ c.in_ok-push_own.ensures))
+    (sym c.in-Some.ensures)
+    (sym c.in-Some-by.ensures)
+    (cleared c.clear-2.ensures.items (c.deref-2.ensures.value ∙ c.in_ok-push_by.ensures))
+    (sym c.is_line.ensures ∙ is)
