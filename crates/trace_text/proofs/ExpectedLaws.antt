@@ -61,17 +61,16 @@ number-ends number found node bytes behind small is read by =
     }
 
 -- an outcome that was printed, and a node
-pub printed-ends : (outcome : Outcome) (node : ℕ) (bytes behind rest own line : List ℕ) → is_outcome outcome ≡ true
-    → own ≡ own_text outcome.own → strip own bytes ≡ Some behind → by_at behind ≡ Some (node, rest)
+pub printed-ends : (outcome : Outcome) (node : ℕ) (bytes behind own line : List ℕ) → is_outcome outcome ≡ true
+    → own ≡ own_text outcome.own → strip own bytes ≡ Some behind → (1 ≤ node) × (node ≤ 32)
     → line ≡ by_text node outcome.woken → is_line line behind ≡ true → EndsWith outcome bytes
-printed-ends outcome node bytes behind rest own line fits o s by l h =
-    let b = by-takes behind node rest by in
+printed-ends outcome node bytes behind own line fits o s n l h =
     let text : by_text node outcome.woken ≡ behind ++ 10 ∷ [] = sym l ∙ line-tested line behind h in
     record {
       fits = fits;
       node = node;
-      low = b.low;
-      high = b.high;
+      low = n.0;
+      high = n.1;
       text = rw (text, strip_takes own bytes behind s, o) (simp append_assoc);
     }
 

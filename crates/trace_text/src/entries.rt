@@ -1,5 +1,5 @@
 //! A line of a trace, read as its entry.
-ghost use Rattle.std.specs.Prelude.{◌≡◌, ◌≤◌, IfOk, None, option_map, length};
+ghost use Rattle.std.specs.Prelude.{◌≡◌, ◌≤◌, IfOk, IfSome, None, option_map, length};
 ghost use Rattle.trace_text.specs.Reading as reading;
 
 use crate::calls::call_front;
@@ -54,18 +54,27 @@ fn own(alloc: Global, bytes: &[u8]) -> Result<Option<(Option<Reply>, &[u8])>, Me
     }
 }
 
-/// The node that carried the call out.
+/// The number of the node that carried the call out.
 #[tactic(auto, unfolding(crate::specs::Reading::by_at))]
-pub(crate) fn by(bytes: &[u8]) -> Option<(Node, &[u8])>
-    ensures { option_map (λ x. (x.0, x.1.now)) result ≡ reading.by_at bytes.now }
+pub(crate) fn by_number(bytes: &[u8]) -> Option<(u8, &[u8])>
+    ensures value { option_map (λ x. (x.0, x.1.now)) result ≡ reading.by_at bytes.now }
+    ensures node { IfSome result (λ x. (1 ≤ x.0) × (x.0 ≤ 32)) }
 {
     let rest = strip_front(bytes, b" by ")?;
     let (node, rest) = number_front(32, rest)?;
     if 1 <= node {
-        Some((Node(node as u8), rest))
+        Some((node as u8, rest))
     } else {
         None
     }
+}
+
+/// The node that carried the call out.
+fn by(bytes: &[u8]) -> Option<(Node, &[u8])>
+    ensures { option_map (λ x. (x.0, x.1.now)) result ≡ reading.by_at bytes.now }
+{
+    let (node, rest) = by_number(bytes)?;
+    Some((Node(node), rest))
 }
 
 /// A caller that is woken, and its reply.

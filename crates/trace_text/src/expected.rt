@@ -6,12 +6,12 @@ ghost use Rattle.kernel_model.specs.Trace as trace;
 ghost use Rattle.quoted_bytes.specs.Front.{strip};
 ghost use Rattle.trace_text.specs.Expected.{EndsWith, numbered};
 
-use crate::entries::{by, is_line};
+use crate::entries::{by_number, is_line};
 use crate::grammar::is_outcome;
 use crate::print_calls::push_call;
 use crate::print_entries::{push_by, push_equals, push_own};
 use crate::text::push_byte;
-use pico_base::{Call, Memory, Outcome, Reply, Script};
+use pico_base::{Call, Memory, Node, Outcome, Reply, Script};
 use quoted_bytes::strip_front;
 use text_fields::number_front;
 
@@ -70,7 +70,7 @@ fn is_number_end(number: u32, rest: &[u8]) -> bool
     let Some((found, behind)) = number_front(u32::MAX, rest) else {
         return false;
     };
-    let Some((_, left)) = by(behind) else {
+    let Some((_, left)) = by_number(behind) else {
         return false;
     };
     found == number && left.is_empty()
@@ -88,11 +88,11 @@ fn is_printed_end(outcome: &Outcome, rest: &[u8], scratch: &mut Vec<u8>) -> Resu
     let Some(behind) = strip_front(rest, scratch) else {
         return Ok(false);
     };
-    let Some((node, _)) = by(behind) else {
+    let Some((node, _)) = by_number(behind) else {
         return Ok(false);
     };
     scratch.clear();
-    push_by(scratch, node, outcome.woken.as_slice())?;
+    push_by(scratch, Node(node), outcome.woken.as_slice())?;
     Ok(is_line(scratch, behind))
 }
 

@@ -24,7 +24,11 @@ pub(crate) enum Told {
 fn is_numberless(call: &Call) -> bool {
     !matches!(
         call,
-        Call::Fork { .. } | Call::MsgGet { .. } | Call::SemGet { .. } | Call::Withdraw { .. } | Call::Killed { .. }
+        Call::Fork { .. }
+            | Call::MsgGet { .. }
+            | Call::SemGet { .. }
+            | Call::Withdraw { .. }
+            | Call::Killed { .. }
     )
 }
 
@@ -134,7 +138,14 @@ impl Judge {
             });
         }
         self.tally.add_call(&entry.call, &entry.outcome)?;
-        move_on(self.alloc, script, &mut self.cursors, entry.pid, &entry.call, &entry.outcome)?;
+        move_on(
+            self.alloc,
+            script,
+            &mut self.cursors,
+            entry.pid,
+            &entry.call,
+            &entry.outcome,
+        )?;
         Ok(())
     }
 
