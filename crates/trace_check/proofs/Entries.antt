@@ -198,7 +198,7 @@ module _ (script : Script) (sound : IsSoundScript script) where
       ∙ (and_parts l.alive.marks.struck (is_parked_at pid name l.alive.marks.parked) l.may).1
 
   -- what is next may follow, where the kernel has the process parked with the call that waits
-  next-follows : (k : Kernel) (pid n : ℕ) (s : Successor) (p : Progress) (call : Call) → is_call script call ≡ true
+  pub next-follows : (k : Kernel) (pid n : ℕ) (s : Successor) (p : Progress) (call : Call) → is_call script call ≡ true
       → transition k pid call n ≡ Some s → IsNext p call
       → (p.parked ≡ true → mark_in k.processes pid ≡ due p.place)
       → may_follow script pid (last_doom (living_at k pid)) p call ≡ true

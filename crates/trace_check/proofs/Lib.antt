@@ -11,5 +11,6 @@ pub mod PlaceLaws
 pub mod SameTexts
 pub mod StandingLaws
 pub mod SteadyLaws
+pub mod ToldLaws
 pub mod Waits
 pub mod Examples

@@ -3,3 +3,4 @@ pub mod FirstFault
 pub mod Judging
 pub mod Refusal
 pub mod Standings
+pub mod Told

@@ -5,7 +5,6 @@ ghost use Rattle.kernel_model.specs.Script.{IsSoundScript};
 ghost use Rattle.trace_check.specs.FirstFault.{CountsLegal, Gives, IsLegalTrace, verdict_of};
 
 use crate::judge::Judge;
-use crate::judge::lines::Told;
 use pico_base::Script;
 use std::alloc::Global;
 use trace_text::{CheckFault, MAX_TRACE, fits, next_line};
@@ -39,12 +38,8 @@ fn judge(alloc: Global, script: &Script, bytes: &[u8], first_line: u32) -> Resul
         if judge.is_totals(text, &mut scratch)? {
             return judge.totals(script, line, line - first_line, after);
         }
-        match judge.told(script, text, &mut scratch)? {
-            Told::Judged => (),
-            told => match judge.untold(script, line, text, told, &mut scratch) {
-                Ok(()) => (),
-                Err(fault) => return Err(fault),
-            },
+        if !judge.line(script, line, text, &mut scratch)? {
+            return Err(judge.fault());
         }
         left -= text.len() + 1;
         line += 1;

@@ -1,5 +1,5 @@
 //! Where a process of the history is in its block.
-ghost use Rattle.std.specs.Prelude.{◌≡◌, is_some, IfOk, IfSome, OnOk, IsTrue};
+ghost use Rattle.std.specs.Prelude.{◌≡◌, is_some, option_copied, IfOk, IfSome, OnOk, IsTrue};
 ghost use Rattle.kernel_model.specs.Script.{IsSoundScript};
 ghost use Rattle.kernel_model.specs.Fitting.{child_vars, due};
 ghost use Rattle.node_calls.specs.Caller.{are_rising};

@@ -14,7 +14,7 @@ ghost use Rattle.trace_check.specs.Cursors.{AreSteady, IsSteady, MayMake, MayMak
 ghost use Rattle.trace_check.specs.FirstFault.{Gives, first_going, judge_entry, judge_made, judge_outcome, judge_totals};
 ghost use Rattle.trace_check.specs.Judging.{Carried, Yields, so_far_of};
 
-pub(crate) mod lines;
+mod lines;
 
 use crate::check::Legal;
 use crate::cursor::Cursor;
@@ -35,7 +35,10 @@ pub(crate) struct Judge {
     cursors: Cursors,
     tally: Tally,
     texts: Texts,
+    /// What the kernel did, where the line says otherwise.
     other: Option<Outcome>,
+    /// The first fault.
+    fault: Option<CheckFault>,
 }
 
 /// The number that a call with this reply may have created: the one in it, and else 0.
@@ -275,6 +278,7 @@ impl Judge {
             tally: Tally::new(),
             texts: Texts::new(alloc),
             other: None,
+            fault: None,
         })
     }
 

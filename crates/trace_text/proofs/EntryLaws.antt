@@ -47,7 +47,7 @@ by-again node rest low high ends =
       le-leb 1 node low,
     ) refl
 
-made-again : (script : Script) (pid : ℕ) (call : Call) (more : List ℕ) → IsSoundScript script → pid ≤ 4294967295
+pub made-again : (script : Script) (pid : ℕ) (call : Call) (more : List ℕ) → IsSoundScript script → pid ≤ 4294967295
     → is_call script call ≡ true
     → made_at script (decimal pid ++ 32 ∷ (call_text script call ++ 32 ∷ 61 ∷ more))
     ≡ Some ((pid, call), 32 ∷ 61 ∷ more)

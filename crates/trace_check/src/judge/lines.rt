@@ -1,5 +1,10 @@
 //! A line judged: beside the one that is expected where a call of the script is due, and else by what is read of it.
-ghost use Rattle.std.specs.Prelude.{◌≡◌, IfSome, OnOk, None, Some, option_copied, IsTrue};
+ghost use Rattle.std.specs.Prelude.{◌≡◌, ◌++◌, decimal, IfOk, IfSome, OnOk, IsTrue};
+ghost use Rattle.kernel_model.specs.Script.{IsSoundScript};
+ghost use Rattle.trace_check.specs.Cursors.{AreSteady};
+ghost use Rattle.trace_check.specs.Told.{Begun, HasCarried, IsBegun, IsDueAt, Judges, Keeps, Tells, call_front, is_numberless, line_with};
+ghost use Rattle.trace_check.specs.declared.judge.Judge.{Judge as JudgeValue};
+ghost use Rattle.trace_text.specs.Grammar.{is_call};
 
 use crate::judge::{Judge, move_on};
 use crate::same::is_same_outcome;
@@ -19,9 +24,10 @@ pub(crate) enum Told {
     Differs,
 }
 
-/// Whether the kernel carries the call out whatever number is given to it for a new object, and whether it is no
-/// withdrawal.
-fn is_numberless(call: &Call) -> bool {
+/// Whether the call makes nothing that takes a number. A withdrawal and the end by a signal are no calls of a script.
+fn is_numberless(call: &Call) -> bool
+    ensures { result ≡ is_numberless call.now }
+{
     !matches!(
         call,
         Call::Fork { .. }
@@ -34,12 +40,12 @@ fn is_numberless(call: &Call) -> bool {
 
 impl Judge {
     /// Judges the next line, and counts its entry, where it is the one that is expected.
-    pub(crate) fn told(
-        &mut self,
-        script: &Script,
-        text: &[u8],
-        scratch: &mut Vec<u8>,
-    ) -> Result<Told, Memory> {
+    fn told(&mut self, script: &Script, text: &[u8], scratch: &mut Vec<u8>) -> Result<Told, Memory>
+        requires sound { IsSoundScript script.now }
+        requires steady { AreSteady script.now self.old.cursors.entries }
+        ensures told { IfOk result (λ told. Tells told script.now text.now self.old self.new) }
+        ensures steady { OnOk result (AreSteady script.now self.new.cursors.entries) }
+    {
         let Some((pid, behind)) = number_front(u32::MAX, text) else {
             return Ok(Told::Unread);
         };
@@ -63,10 +69,18 @@ impl Judge {
         pid: Pid,
         behind: &[u8],
         scratch: &mut Vec<u8>,
-    ) -> Result<Told, Memory> {
+    ) -> Result<Told, Memory>
+        requires sound { IsSoundScript script.now }
+        requires steady { AreSteady script.now self.old.cursors.entries }
+        ensures told { IfOk result (λ told. Tells told script.now (decimal pid ++ behind.now) self.old self.new) }
+        ensures steady { OnOk result (AreSteady script.now self.new.cursors.entries) }
+    {
         let Some(cursor) = self.cursors.get(pid.0) else {
             return Ok(Told::Unread);
         };
+        if cursor.is_parked() {
+            return Ok(Told::Unread);
+        }
         let Some(call) = cursor.due(script)? else {
             return Ok(Told::Unread);
         };
@@ -81,8 +95,17 @@ impl Judge {
         call: &Call,
         behind: &[u8],
         scratch: &mut Vec<u8>,
-    ) -> Result<Told, Memory> {
-        if !is_numberless(call) || !is_call(script, call) {
+    ) -> Result<Told, Memory>
+        requires sound { IsSoundScript script.now }
+        requires steady { AreSteady script.now self.old.cursors.entries }
+        requires due { IsDueAt script.now self.old.cursors.entries pid call.now }
+        ensures told { IfOk result (λ told. Tells told script.now (decimal pid ++ behind.now) self.old self.new) }
+        ensures steady { OnOk result (AreSteady script.now self.new.cursors.entries) }
+    {
+        if !is_numberless(call) {
+            return Ok(Told::Unread);
+        }
+        if !is_call(script, call) {
             return Ok(Told::Unread);
         }
         match behind_call(script, call, behind, scratch)? {
@@ -99,7 +122,16 @@ impl Judge {
         call: &Call,
         rest: &[u8],
         scratch: &mut Vec<u8>,
-    ) -> Result<Told, Memory> {
+    ) -> Result<Told, Memory>
+        requires sound { IsSoundScript script.now }
+        requires steady { AreSteady script.now self.old.cursors.entries }
+        requires due { IsDueAt script.now self.old.cursors.entries pid call.now }
+        requires numberless { IsTrue (is_numberless call.now) }
+        requires grammar { IsTrue (is_call script.now call.now) }
+        ensures told { IfOk result
+            (λ told. Tells told script.now (line_with script.now pid call.now rest.now) self.old self.new) }
+        ensures steady { OnOk result (AreSteady script.now self.new.cursors.entries) }
+    {
         match self.kernel.call(pid, call, 0) {
             Ok(outcome) => {
                 if !is_end(&outcome, rest, scratch)? {
@@ -116,25 +148,32 @@ impl Judge {
     }
 
     /// The kernel has carried the call out with another outcome than the line's, unless that is no line.
-    #[inline(never)]
-    pub(crate) fn differs(
+    fn differs(
         &mut self,
         script: &Script,
         line: u32,
         text: &[u8],
         scratch: &mut Vec<u8>,
-    ) -> Result<(), CheckFault> {
+    ) -> Result<(), CheckFault>
+        requires sound { IsSoundScript script.now }
+        requires steady { AreSteady script.now self.old.cursors.entries }
+        requires begun { IsBegun script.now self.old.cursors.entries text.now }
+        ensures judged { (before : JudgeValue) → HasCarried script.now text.now before self.old
+            → Judges result script.now line text.now before self.new }
+        ensures steady { OnOk result (AreSteady script.now self.new.cursors.entries) }
+    {
         let Some(entry) = entry_in(self.alloc, script, text, scratch)? else {
             return Err(CheckFault::NotATrace { line });
         };
         let Some(outcome) = self.other.take() else {
-            return Err(CheckFault::NotATrace { line });
+            return Err(CheckFault::Memory);
         };
         if !is_same_outcome(&outcome, &entry.outcome, &mut self.texts)? {
+            let trace = entry.outcome.try_copy(self.alloc)?;
             return Err(CheckFault::Illegal {
                 line,
                 kernel: Some(outcome),
-                trace: entry.outcome.try_copy(self.alloc)?,
+                trace,
             });
         }
         self.tally.add_call(&entry.call, &entry.outcome)?;
@@ -150,14 +189,18 @@ impl Judge {
     }
 
     /// Judges the line by what is read of it.
-    #[inline(never)]
-    pub(crate) fn read(
+    fn read(
         &mut self,
         script: &Script,
         line: u32,
         text: &[u8],
         scratch: &mut Vec<u8>,
-    ) -> Result<(), CheckFault> {
+    ) -> Result<(), CheckFault>
+        requires sound { IsSoundScript script.now }
+        requires steady { AreSteady script.now self.old.cursors.entries }
+        ensures judged { Judges result script.now line text.now self.old self.new }
+        ensures steady { OnOk result (AreSteady script.now self.new.cursors.entries) }
+    {
         match entry_in(self.alloc, script, text, scratch)? {
             Some(entry) => self.entry(script, line, &entry),
             None => Err(CheckFault::NotATrace { line }),
@@ -165,19 +208,80 @@ impl Judge {
     }
 
     /// Judges a line that isn't the one that is expected.
-    #[inline(never)]
-    pub(crate) fn untold(
+    fn rest(
         &mut self,
         script: &Script,
         line: u32,
         text: &[u8],
         told: Told,
         scratch: &mut Vec<u8>,
-    ) -> Result<(), CheckFault> {
+    ) -> Result<(), CheckFault>
+        requires sound { IsSoundScript script.now }
+        requires steady { AreSteady script.now self.old.cursors.entries }
+        requires begun { Begun told script.now text.now self.old }
+        ensures judged { (before : JudgeValue) → Tells told script.now text.now before self.old
+            → Judges result script.now line text.now before self.new }
+        ensures steady { OnOk result (AreSteady script.now self.new.cursors.entries) }
+    {
         match told {
             Told::Judged => Ok(()),
             Told::Unread => self.read(script, line, text, scratch),
             Told::Differs => self.differs(script, line, text, scratch),
+        }
+    }
+
+    /// Judges a line that isn't the one that is expected, and keeps its fault. It stands apart, since a fault is long.
+    #[inline(never)]
+    fn untold(
+        &mut self,
+        script: &Script,
+        line: u32,
+        text: &[u8],
+        told: Told,
+        scratch: &mut Vec<u8>,
+    ) -> bool
+        requires sound { IsSoundScript script.now }
+        requires steady { AreSteady script.now self.old.cursors.entries }
+        requires begun { Begun told script.now text.now self.old }
+        ensures judged { (before : JudgeValue) → Tells told script.now text.now before self.old
+            → Keeps result script.now line text.now before self.new }
+        ensures steady { IsTrue result → AreSteady script.now self.new.cursors.entries }
+    {
+        match self.rest(script, line, text, told, scratch) {
+            Ok(()) => true,
+            Err(fault) => {
+                self.fault = Some(fault);
+                false
+            }
+        }
+    }
+
+    /// Judges the next line, and counts its entry. Where that has a fault it is kept, and the answer is no.
+    pub(crate) fn line(
+        &mut self,
+        script: &Script,
+        line: u32,
+        text: &[u8],
+        scratch: &mut Vec<u8>,
+    ) -> Result<bool, Memory>
+        requires sound { IsSoundScript script.now }
+        requires steady { AreSteady script.now self.old.cursors.entries }
+        ensures judged { IfOk result (λ goes. Keeps goes script.now line text.now self.old self.new) }
+        ensures steady { IfOk result (λ goes. IsTrue goes → AreSteady script.now self.new.cursors.entries) }
+    {
+        match self.told(script, text, scratch)? {
+            Told::Judged => Ok(true),
+            told => Ok(self.untold(script, line, text, told, scratch)),
+        }
+    }
+
+    /// The fault that was kept.
+    pub(crate) fn fault(&mut self) -> CheckFault
+        ensures { IfSome self.old.fault (λ fault. result ≡ fault) }
+    {
+        match self.fault.take() {
+            Some(fault) => fault,
+            None => CheckFault::Memory,
         }
     }
 }

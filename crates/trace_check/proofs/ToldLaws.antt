@@ -1,0 +1,191 @@
+-- What comes of a line that is held beside the one that is expected.
+use Rattle.std.proofs.Common.{◌≡◌, inl, ◌∙◌, ℕ, ◌≤◌, Bool, true, false, not, ◌&&◌, leb, List, [], ◌∷◌, ◌++◌, Option, Some, None, is_some, refl, sym, ap, subst, append_assoc, arith}
+use Rattle.std.specs.Prelude.{codes, decimal, Ok, Err, IfSome}
+use Rattle.std.specs.Option.{option_map_or}
+use Rattle.std.proofs.lemmas.Bool.{and_parts, and_from, le-leb}
+use Rattle.std.proofs.lemmas.Option.{same_Some}
+use Rattle.pico_base.specs.declared.call.Call.{Call}
+use Rattle.pico_base.specs.declared.call.Call.TheVariants as calls
+use Rattle.pico_base.specs.declared.reply.Entry.{Entry}
+use Rattle.pico_base.specs.declared.reply.Outcome.{Outcome}
+use Rattle.pico_base.specs.declared.script.Script.{Script}
+use Rattle.number_maps.specs.Maps.{Numbered, get}
+use Rattle.kernel_model.specs.History.{number_in}
+use Rattle.kernel_model.specs.Numbers.{is_u32, is_between}
+use Rattle.kernel_model.specs.Script.{IsSoundScript}
+use Rattle.kernel_model.specs.Fitting.{due}
+use Rattle.kernel_model.specs.Trace.{call_text, own_text, by_text, entry_line}
+use Rattle.waiting_model.specs.Calls.{withdrawn_from}
+use Rattle.waiting_model.specs.Waiters.{waiter}
+use Rattle.waiting_model.specs.Marks.{Alive}
+use Rattle.waiting_model.specs.Kernel.{Kernel, living_at}
+use Rattle.waiting_model.specs.Transition.{Successor, successor, effect_by, may_make, outcome_of, transition, transition_by, step_by}
+use Rattle.waiting_model.specs.Effect.{Effect}
+use Rattle.waiting_model.specs.Fitting.{IsNext, Progress}
+use Rattle.waiting_laws.specs.Parked.{mark_in}
+use Rattle.text_fields.specs.Fields.{digit_at, number_at}
+use Rattle.text_fields.proofs.Chains.{bind_some, chosen}
+use Rattle.trace_text.specs.Expected.{EndsWith}
+use Rattle.trace_text.specs.Grammar.{is_call, is_outcome, is_entry}
+use Rattle.trace_text.specs.Reading.{made_at, entry_at, entry_in, entry_if, replied_at}
+use Rattle.trace_text.specs.Totals.{Counts, tally_of}
+use Rattle.trace_text.specs.declared.fault.CheckFault.{CheckFault}
+use Rattle.trace_text.specs.declared.fault.CheckFault.TheVariants.{Illegal, NotATrace}
+use Rattle.trace_text.proofs.EntryLaws.{entry-reads, made-again}
+use Rattle.trace_check.specs.declared.cursor.Cursor.{Cursor}
+use Rattle.trace_check.specs.declared.judge.Judge.{Judge}
+use Rattle.trace_check.specs.Cursors.{AreSteady, IsIdle, MayMake, MayMakeAt, may_come_in, moved_on, place_of, progress_of}
+use Rattle.trace_check.specs.FirstFault.{SoFar, GivesFault, is_same_outcome, judge_entry, judge_made, judge_outcome, last_doom, may_follow}
+use Rattle.trace_check.specs.Judging.{so_far_of}
+use Rattle.trace_check.specs.Told.{Goes, HasCarried, IsBegun, IsDueAt, Judges, Keeps, Stays, Tells, call_front, is_numberless, judge_text, line_with}
+use Rattle.trace_check.proofs.Entries.{next-follows}
+use Rattle.trace_check.proofs.JudgeLaws.{illegal, made}
+use Rattle.trace_check.proofs.SameTexts.{outcome-itself}
+
+-- A call that makes nothing has the same effect whatever number is chosen.
+
+effect-numberless : (k : Kernel) (pid : ℕ) (form : Call) (a : Alive) (call : Call) (n m : ℕ)
+    → is_numberless call ≡ true → effect_by k (waiter pid form) a call n ≡ effect_by k (waiter pid form) a call m
+effect-numberless k pid form a (calls.Fork block) n m h = absurd (cc)
+effect-numberless k pid form a (calls.Exit status) n m h = refl
+effect-numberless k pid form a (calls.Killed sig) n m h = refl
+effect-numberless k pid form a calls.GetPid n m h = refl
+effect-numberless k pid form a (calls.Kill target sig) n m h = refl
+effect-numberless k pid form a (calls.SigAction sig act) n m h = refl
+effect-numberless k pid form a (calls.SigProcMask how set) n m h = refl
+effect-numberless k pid form a calls.SigPending n m h = refl
+effect-numberless k pid form a (calls.Handled sig) n m h = refl
+effect-numberless k pid form a (calls.WaitPid child nohang) n m h = refl
+effect-numberless k pid form a (calls.MsgGet key create excl) n m h = absurd (cc)
+effect-numberless k pid form a (calls.MsgSnd id class text nowait) n m h = refl
+effect-numberless k pid form a (calls.MsgRcv id class size noerror nowait) n m h = refl
+effect-numberless k pid form a (calls.MsgStat id) n m h = refl
+effect-numberless k pid form a (calls.MsgSet id qbytes) n m h = refl
+effect-numberless k pid form a (calls.MsgRmid id) n m h = refl
+effect-numberless k pid form a (calls.SemGet key count create excl) n m h = absurd (cc)
+effect-numberless k pid form a (calls.SemOp id steps) n m h = refl
+effect-numberless k pid form a (calls.SemGetVal id num) n m h = refl
+effect-numberless k pid form a (calls.SemGetPid id num) n m h = refl
+effect-numberless k pid form a (calls.SemGetNcnt id num) n m h = refl
+effect-numberless k pid form a (calls.SemGetZcnt id num) n m h = refl
+effect-numberless k pid form a (calls.SemSetVal id num value) n m h = refl
+effect-numberless k pid form a (calls.SemGetAll id) n m h = refl
+effect-numberless k pid form a (calls.SemSetAll id values) n m h = refl
+effect-numberless k pid form a (calls.SemRmid id) n m h = refl
+effect-numberless k pid form a (calls.Withdraw name) n m h = refl
+
+plain-of : (call : Call) → is_numberless call ≡ true → withdrawn_from call ≡ None
+plain-of (calls.Withdraw name) h = absurd (cc)
+plain-of call h = refl
+
+pub numberless : (k : Kernel) (pid : ℕ) (call : Call) (n m : ℕ) → is_numberless call ≡ true
+    → transition k pid call n ≡ transition k pid call m
+numberless k pid call n m h = of (living_at k pid)
+  where
+    of : (o : Option Alive) → transition_by k pid call n o ≡ transition_by k pid call m o
+    of None = refl
+    of (Some a) =
+        ap (step_by k pid call n a) (plain-of call h)
+        ∙ ap (λ (e : Option Effect). if may_make a call then outcome_of pid call e else None)
+        (effect-numberless k pid call a call n m h)
+        ∙ ap (step_by k pid call m a) (sym (plain-of call h))
+
+-- A process that doesn't wait may make the call that is due, as far as the kernel goes.
+
+next-is : (p : Progress) (call : Call) → is_numberless call ≡ true → p.parked ≡ false → due p.place ≡ Some call
+    → IsNext p call
+next-is p (calls.Withdraw name) h idle is = absurd (cc)
+next-is p call h idle is = (idle, inl is)
+
+module _ (script : Script) (sound : IsSoundScript script) (kernel : Kernel) (cursors : Numbered Cursor) (pid : ℕ)
+    (call : Call) (d : IsDueAt script cursors pid call) (h : is_numberless call ≡ true) where
+  pub may-make-due : MayMakeAt script cursors pid call
+  may-make-due = rw d.there (of call h d.due)
+    where
+      of : (c : Call) → is_numberless c ≡ true → due (place_of script d.cursor) ≡ Some c → MayMake script d.cursor c
+      of (calls.Withdraw name) n is = tt
+      of c n is = (d.idle, ap is_some is)
+
+  module _ (grammar : is_call script call ≡ true) (next : Kernel) (outcome : Outcome)
+      (step : (n : ℕ) → transition kernel pid call n ≡ Some (successor next outcome)) where
+    may-come : may_come_in script cursors pid (last_doom (living_at kernel pid)) call ≡ true
+    may-come =
+        let p : Progress = progress_of script d.cursor in
+        let idle : p.parked ≡ false = ap is_some d.idle in
+        rw d.there (next-follows script sound kernel pid 0 (successor next outcome) p call grammar (step 0)
+        (next-is p call h idle d.due) (λ waits. absurd (cc)))
+
+    -- the kernel comes to the same as the entry
+    pub same-made : (other : Outcome) → AreSteady script cursors → is_same_outcome outcome other ≡ true → (line : ℕ)
+        → judge_made script line (so_far_of script kernel cursors) pid call other
+        ≡ Ok (so_far_of script next (moved_on script cursors pid call other))
+    same-made other steady same line =
+        made script line kernel cursors pid call other (last_doom (living_at kernel pid)) refl may-come steady next
+        (rw (step (number_in other.own), same) refl)
+
+    -- or to another outcome
+    pub other-made : (other : Outcome) → is_same_outcome outcome other ≡ false → (line : ℕ)
+        → judge_made script line (so_far_of script kernel cursors) pid call other ≡ Err (Illegal line (Some outcome) other)
+    other-made other same line =
+        illegal script line kernel cursors pid call other (last_doom (living_at kernel pid)) refl may-come
+        (Illegal line (Some outcome) other) (rw (step (number_in other.own), same) refl)
+
+-- The line that is expected is read as its entry.
+
+entry-with : ℕ → Call → Outcome → ℕ → Entry
+entry-with pid call outcome node = record { pid = pid; call = call; outcome = outcome; by = node }
+
+pub reads-expected : (script : Script) (pid : ℕ) (call : Call) (rest : List ℕ) (outcome : Outcome)
+    → IsSoundScript script → pid ≤ 4294967295 → is_call script call ≡ true → (e : EndsWith outcome rest)
+    → entry_in script (line_with script pid call rest) ≡ Some (record { pid = pid; call = call; outcome = outcome; by = e.node })
+reads-expected script pid call rest outcome sound small grammar e =
+    let entry : Entry = record { pid = pid; call = call; outcome = outcome; by = e.node } in
+    let node : is_between 1 32 e.node ≡ true =
+    and_from (leb 1 e.node) (leb e.node 32) (le-leb 1 e.node e.low) (le-leb e.node 32 e.high) in
+    let there : is_entry script entry ≡ true =
+    and_from (is_u32 pid) (is_call script call && (is_outcome outcome && is_between 1 32 e.node))
+    (le-leb pid 4294967295 small)
+    (and_from (is_call script call) (is_outcome outcome && is_between 1 32 e.node) grammar
+    (and_from (is_outcome outcome) (is_between 1 32 e.node) e.fits node)) in
+    let text : entry_line script entry ≡ line_with script pid call rest ++ 10 ∷ [] =
+    ends (decimal pid) (call_text script call) (own_text outcome.own ++ by_text e.node outcome.woken) rest e.text in
+    entry-reads script (line_with script pid call rest) entry sound there text
+  where
+    ends : (p c end rest : List ℕ) → end ≡ rest ++ 10 ∷ []
+        → (p ++ 32 ∷ c) ++ codes " = " ++ end ≡ (p ++ ((32 ∷ (c ++ codes " = ")) ++ rest)) ++ 10 ∷ []
+    ends p c end rest is = rw is (simp append_assoc)
+
+-- What is read of a line that begins with a call has that process and that call.
+pub record HasBegun (pid : ℕ) (call : Call) (e : Entry) : Type 0 where
+  pub pid : e.pid ≡ pid
+  pub call : e.call ≡ call
+
+pub begins : (script : Script) (pid : ℕ) (call : Call) (rest : List ℕ) (e : Entry)
+    → IsSoundScript script → pid ≤ 4294967295 → is_call script call ≡ true
+    → entry_in script (line_with script pid call rest) ≡ Some e → HasBegun pid call e
+unfolding entry_in entry_at
+begins script pid call rest e sound small grammar read =
+    let line : List ℕ = line_with script pid call rest in
+    let b = bind_some (entry_at script line) (entry_if script line) e read in
+    let same : b.0 ≡ e = same_Some b.0 e (chosen _ (Some b.0) e b.2).1 in
+    let front : line ≡ decimal pid ++ 32 ∷ (call_text script call ++ 32 ∷ 61 ∷ (32 ∷ rest)) =
+    ap (λ (xs : List ℕ). decimal pid ++ 32 ∷ xs) (append_assoc (call_text script call) (codes " = ") rest) in
+    let is : made_at script line ≡ Some ((pid, call), 32 ∷ 61 ∷ (32 ∷ rest)) =
+    ap (made_at script) front ∙ made-again script pid call (32 ∷ rest) sound small grammar in
+    let m = bind_some (made_at script line) (λ made. replied_at made.0 made.1) b.0 b.1 in
+    let which : m.0 ≡ ((pid, call), 32 ∷ 61 ∷ (32 ∷ rest)) = same_Some m.0 _ (sym m.1 ∙ is) in
+    let r = replied m.0.0 m.0.1 b.0 m.2 in
+    record {
+      pid = ap (λ (x : Entry). x.pid) (sym same) ∙ r.pid ∙ ap (λ (q : (ℕ × Call) × List ℕ). q.0.0) which;
+      call = ap (λ (x : Entry). x.call) (sym same) ∙ r.call ∙ ap (λ (q : (ℕ × Call) × List ℕ). q.0.1) which;
+    }
+  where
+    replied : (made : ℕ × Call) (bytes : List ℕ) (x : Entry) → replied_at made bytes ≡ Some x
+        → HasBegun made.0 made.1 x
+    replied made bytes x h =
+        let f = bind_some _ _ x h in
+        let o = bind_some _ _ x f.2 in
+        let n = bind_some _ _ x o.2 in
+        let w = chosen _ (Some _) x n.2 in
+        let is = same_Some _ x w.1 in
+        record { pid = sym (ap (λ (y : Entry). y.pid) is); call = sym (ap (λ (y : Entry). y.call) is) }
