@@ -1,6 +1,7 @@
 -- What a line leads to, case by case, as the code goes.
 use Rattle.std.proofs.Common.{◌≡◌, ◌∙◌, ℕ, zero, suc, ◌+◌, ◌-◌, ◌<◌, true, false, List, [], ◌∷◌, ◌++◌, length, Some, None, refl, sym, ap, subst, arith}
-use Rattle.std.specs.Prelude.{Result, Ok, Err}
+use Rattle.std.specs.Prelude.{Option, Result, Ok, Err}
+use Rattle.std.specs.Option.{option_map_or}
 use Rattle.pico_base.specs.declared.reply.Entry.{Entry}
 use Rattle.pico_base.specs.declared.script.Script.{Script}
 use Rattle.number_maps.specs.Maps.{Numbered}
@@ -114,3 +115,19 @@ module _ (script : Script) (line left : ℕ) (done : List Entry) (so_far : SoFar
         (λ (next : SoFar).
         judge_from script (n - 1) (line + 1) (left - (length text + 1)) (done ++ e ∷ []) next after)
         judged
+
+    -- by what is read of it, it has this fault
+    pub judge-text : (n : ℕ) → 0 < n → fits left text ≡ true → is_line (totals_line done) text ≡ false
+        → (fault : CheckFault)
+        → GivesFault fault (option_map_or (judge_entry script line so_far) (entry_in script text)
+        (Err (NotATrace line)))
+        → GivesFault fault (judge_from script n line left done so_far bytes)
+    judge-text n some f t fault given = of (entry_in script text) refl given
+      where
+        of : (o : Option Entry) → entry_in script text ≡ o
+            → GivesFault fault (option_map_or (judge_entry script line so_far) o (Err (NotATrace line)))
+            → GivesFault fault (judge_from script n line left done so_far bytes)
+        of None is g =
+            subst (GivesFault fault) (sym (judge-none n f t is))
+            (fault-goes fault (Err (NotATrace line)) (λ (next : SoFar). judge_from script n line left done next bytes) g)
+        of (Some e) is g = judge-fault n e some f t is fault g

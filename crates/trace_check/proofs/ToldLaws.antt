@@ -1,8 +1,8 @@
 -- What comes of a line that is held beside the one that is expected.
-use Rattle.std.proofs.Common.{◌≡◌, inl, ◌∙◌, ℕ, ◌≤◌, Bool, true, false, not, ◌&&◌, leb, List, [], ◌∷◌, ◌++◌, Option, Some, None, is_some, refl, sym, ap, subst, append_assoc, arith}
-use Rattle.std.specs.Prelude.{codes, decimal, Ok, Err, IfSome}
+use Rattle.std.proofs.Common.{◌≡◌, inl, ◌∙◌, ℕ, ◌≤◌, Bool, true, false, not, ◌&&◌, cond, leb, List, [], ◌∷◌, ◌++◌, Option, Some, None, is_some, refl, sym, ap, subst, append_assoc, arith}
+use Rattle.std.specs.Prelude.{codes, decimal, Result, Ok, Err, IfOk, OnOk}
 use Rattle.std.specs.Option.{option_map_or}
-use Rattle.std.proofs.lemmas.Bool.{and_parts, and_from, le-leb}
+use Rattle.std.proofs.lemmas.Bool.{and_parts, and_from, le-leb, lt-ltb}
 use Rattle.std.proofs.lemmas.Option.{same_Some}
 use Rattle.pico_base.specs.declared.call.Call.{Call}
 use Rattle.pico_base.specs.declared.call.Call.TheVariants as calls
@@ -30,13 +30,18 @@ use Rattle.trace_text.specs.Grammar.{is_call, is_outcome, is_entry}
 use Rattle.trace_text.specs.Reading.{made_at, entry_at, entry_in, entry_if, replied_at}
 use Rattle.trace_text.specs.Totals.{Counts, tally_of}
 use Rattle.trace_text.specs.declared.fault.CheckFault.{CheckFault}
-use Rattle.trace_text.specs.declared.fault.CheckFault.TheVariants.{Illegal, NotATrace}
+use Rattle.trace_text.specs.declared.fault.CheckFault.TheVariants.{Illegal, NotATrace, NotTheScript}
+use Rattle.quoted_bytes.specs.Front.{strip}
+use Rattle.quoted_bytes.proofs.Strips.{strip_takes}
+use Rattle.trace_text.proofs.Decimals.{number-was}
 use Rattle.trace_text.proofs.EntryLaws.{entry-reads, made-again}
 use Rattle.trace_check.specs.declared.cursor.Cursor.{Cursor}
 use Rattle.trace_check.specs.declared.judge.Judge.{Judge}
+use Rattle.pico_base.specs.declared.fault.Memory.{Memory}
+use Rattle.trace_check.specs.declared.judge.lines.Told.{Told}
 use Rattle.trace_check.specs.Cursors.{AreSteady, IsIdle, MayMake, MayMakeAt, may_come_in, moved_on, place_of, progress_of}
-use Rattle.trace_check.specs.FirstFault.{SoFar, GivesFault, is_same_outcome, judge_entry, judge_made, judge_outcome, last_doom, may_follow}
-use Rattle.trace_check.specs.Judging.{so_far_of}
+use Rattle.trace_check.specs.FirstFault.{SoFar, GivesFault, due_at, is_same_outcome, judge_entry, judge_made, judge_outcome, last_doom, may_come, or_fault, with_call}
+use Rattle.trace_check.specs.Judging.{so_far_of, Yields}
 use Rattle.trace_check.specs.Told.{Goes, HasCarried, IsBegun, IsDueAt, Judges, Keeps, Stays, Tells, call_front, is_numberless, judge_text, line_with}
 use Rattle.trace_check.proofs.Entries.{next-follows}
 use Rattle.trace_check.proofs.JudgeLaws.{illegal, made}
@@ -86,7 +91,7 @@ numberless k pid call n m h = of (living_at k pid)
     of None = refl
     of (Some a) =
         ap (step_by k pid call n a) (plain-of call h)
-        ∙ ap (λ (e : Option Effect). if may_make a call then outcome_of pid call e else None)
+        ∙ ap (λ (e : Option Effect). cond (may_make a call) (outcome_of pid call e) None)
         (effect-numberless k pid call a call n m h)
         ∙ ap (step_by k pid call m a) (sym (plain-of call h))
 
@@ -132,9 +137,6 @@ module _ (script : Script) (sound : IsSoundScript script) (kernel : Kernel) (cur
 
 -- The line that is expected is read as its entry.
 
-entry-with : ℕ → Call → Outcome → ℕ → Entry
-entry-with pid call outcome node = record { pid = pid; call = call; outcome = outcome; by = node }
-
 pub reads-expected : (script : Script) (pid : ℕ) (call : Call) (rest : List ℕ) (outcome : Outcome)
     → IsSoundScript script → pid ≤ 4294967295 → is_call script call ≡ true → (e : EndsWith outcome rest)
     → entry_in script (line_with script pid call rest) ≡ Some (record { pid = pid; call = call; outcome = outcome; by = e.node })
@@ -144,7 +146,7 @@ reads-expected script pid call rest outcome sound small grammar e =
     and_from (leb 1 e.node) (leb e.node 32) (le-leb 1 e.node e.low) (le-leb e.node 32 e.high) in
     let there : is_entry script entry ≡ true =
     and_from (is_u32 pid) (is_call script call && (is_outcome outcome && is_between 1 32 e.node))
-    (le-leb pid 4294967295 small)
+    (lt-ltb pid 4294967296 (omega arith))
     (and_from (is_call script call) (is_outcome outcome && is_between 1 32 e.node) grammar
     (and_from (is_outcome outcome) (is_between 1 32 e.node) e.fits node)) in
     let text : entry_line script entry ≡ line_with script pid call rest ++ 10 ∷ [] =
@@ -156,9 +158,9 @@ reads-expected script pid call rest outcome sound small grammar e =
     ends p c end rest is = rw is (simp append_assoc)
 
 -- What is read of a line that begins with a call has that process and that call.
-pub record HasBegun (pid : ℕ) (call : Call) (e : Entry) : Type 0 where
-  pub pid : e.pid ≡ pid
-  pub call : e.call ≡ call
+pub record HasBegun (p : ℕ) (c : Call) (e : Entry) : Type 0 where
+  pub pid : e.pid ≡ p
+  pub call : e.call ≡ c
 
 pub begins : (script : Script) (pid : ℕ) (call : Call) (rest : List ℕ) (e : Entry)
     → IsSoundScript script → pid ≤ 4294967295 → is_call script call ≡ true
@@ -189,3 +191,144 @@ begins script pid call rest e sound small grammar read =
         let w = chosen _ (Some _) x n.2 in
         let is = same_Some _ x w.1 in
         record { pid = sym (ap (λ (y : Entry). y.pid) is); call = sym (ap (λ (y : Entry). y.call) is) }
+
+-- An entry that has no fault on one line has none on any.
+pub any-line : (script : Script) (line other : ℕ) (so_far after : SoFar) (e : Entry)
+    → judge_entry script line so_far e ≡ Ok after → judge_entry script other so_far e ≡ Ok after
+any-line script line other so_far after e h =
+    of (may_come script so_far e.pid e.call) (transition so_far.kernel e.pid e.call (number_in e.outcome.own)) h
+  where
+    inner : (s : Successor) (b : Bool)
+        → or_fault (cond b (Ok s.kernel) (Err (Illegal line (Some s.outcome) e.outcome)))
+        (λ kernel. Ok (with_call script so_far e.pid e.call e.outcome kernel)) ≡ Ok after
+        → or_fault (cond b (Ok s.kernel) (Err (Illegal other (Some s.outcome) e.outcome)))
+        (λ kernel. Ok (with_call script so_far e.pid e.call e.outcome kernel)) ≡ Ok after
+    inner s true g = g
+    inner s false g = absurd (cc)
+
+    of : (b : Bool) (t : Option Successor)
+        → cond b (or_fault (judge_outcome line e.outcome t)
+        (λ kernel. Ok (with_call script so_far e.pid e.call e.outcome kernel)))
+        (Err (NotTheScript line (due_at so_far e.pid) (Some e.call))) ≡ Ok after
+        → cond b (or_fault (judge_outcome other e.outcome t)
+        (λ kernel. Ok (with_call script so_far e.pid e.call e.outcome kernel)))
+        (Err (NotTheScript other (due_at so_far e.pid) (Some e.call))) ≡ Ok after
+    of false t g = absurd (cc)
+    of true None g = absurd (cc)
+    of true (Some s) g = inner s (is_same_outcome s.outcome e.outcome) g
+
+module _ {A : Type 0} (script : Script) (line : ℕ) (text : List ℕ) where
+  -- a line that was read is judged as its entry
+  pub judges-entry : (r : Result A CheckFault) (old new : Judge) (e : Entry) → entry_in script text ≡ Some e
+      → Yields r (so_far_of script new.kernel new.cursors.entries)
+      (judge_entry script line (so_far_of script old.kernel old.cursors.entries) e)
+      → ((done : List Entry) → old.tally ≡ tally_of done → OnOk r (new.tally ≡ tally_of (done ++ e ∷ [])))
+      → Judges r script line text old new
+  judges-entry (Ok x) old new e reads y t =
+      record {
+        entry = e;
+        reads = reads;
+        judged = λ other. any-line script line other (so_far_of script old.kernel old.cursors.entries)
+            (so_far_of script new.kernel new.cursors.entries) e y;
+        tally = t;
+      }
+  judges-entry (Err fault) old new e reads y t =
+      subst (λ (o : Option Entry). GivesFault fault
+      (option_map_or (judge_entry script line (so_far_of script old.kernel old.cursors.entries)) o
+      (Err (NotATrace line)))) (sym reads) y
+
+  -- what nothing was done to is judged from where it was
+  pub judges-before : (r : Result A CheckFault) (before old new : Judge) → Stays before old
+      → Judges r script line text old new → Judges r script line text before new
+  judges-before (Ok x) before old new s g =
+      record {
+        entry = g.entry;
+        reads = g.reads;
+        judged = λ other. rw (← s.kernel, ← s.cursors) (g.judged other);
+        tally = λ done counted. g.tally done (s.tally ∙ counted);
+      }
+  judges-before (Err fault) before old new s g = rw (← s.kernel, ← s.cursors) g
+
+-- What the kernel has carried out is judged by what is read of the line.
+
+module _ (script : Script) (text : List ℕ) (sound : IsSoundScript script) (e : Entry)
+    (reads : entry_in script text ≡ Some e) where
+  begun-by : (cursors : Numbered Cursor) (b : IsBegun script cursors text) → HasBegun b.pid b.call e
+  begun-by cursors b =
+      begins script b.pid b.call b.rest e sound b.small b.grammar (ap (entry_in script) (sym b.is) ∙ reads)
+
+  pub begun-may : (kernel : Kernel) (cursors : Numbered Cursor) → IsBegun script cursors text
+      → MayMakeAt script cursors e.pid e.call
+  begun-may kernel cursors b =
+      let g = begun-by cursors b in
+      rw (g.pid, g.call) (may-make-due script sound kernel cursors b.pid b.call b.due b.numberless)
+
+  module _ (before old : Judge) (h : HasCarried script text before old) (outcome : Outcome)
+      (other : old.other ≡ Some outcome) where
+    carried : h.outcome ≡ outcome
+    carried = same_Some h.outcome outcome (sym h.other ∙ other)
+
+    as-made : (line : ℕ) → judge_entry script line (so_far_of script before.kernel before.cursors.entries) e
+        ≡ judge_made script line (so_far_of script before.kernel before.cursors.entries) h.begun.pid h.begun.call
+        e.outcome
+    as-made line =
+        let g = begun-by before.cursors.entries h.begun in
+        ap (λ (p : ℕ). judge_made script line (so_far_of script before.kernel before.cursors.entries) p e.call e.outcome)
+        g.pid
+        ∙ ap (λ (c : Call). judge_made script line (so_far_of script before.kernel before.cursors.entries) h.begun.pid c
+        e.outcome) g.call
+
+    pub carried-other : (line : ℕ) → is_same_outcome outcome e.outcome ≡ false
+        → judge_text script line text before ≡ Err (Illegal line (Some outcome) e.outcome)
+    carried-other line same =
+        let b = h.begun in
+        ap (λ (o : Option Entry).
+        option_map_or (judge_entry script line (so_far_of script before.kernel before.cursors.entries)) o
+        (Err (NotATrace line))) reads
+        ∙ as-made line
+        ∙ other-made script sound before.kernel before.cursors.entries b.pid b.call b.due b.numberless b.grammar
+        old.kernel h.outcome h.step e.outcome (ap (λ (o : Outcome). is_same_outcome o e.outcome) carried ∙ same) line
+        ∙ ap (λ (o : Outcome). Err (Illegal line (Some o) e.outcome)) carried
+
+    pub carried-same : (cursors : Numbered Cursor) → AreSteady script old.cursors.entries
+        → is_same_outcome outcome e.outcome ≡ true
+        → cursors ≡ moved_on script old.cursors.entries e.pid e.call e.outcome → (line : ℕ)
+        → judge_entry script line (so_far_of script before.kernel before.cursors.entries) e
+        ≡ Ok (so_far_of script old.kernel cursors)
+    carried-same cursors steady same moved line =
+        let b = h.begun in
+        let g = begun-by before.cursors.entries b in
+        let steady : AreSteady script before.cursors.entries = subst (AreSteady script) h.cursors steady in
+        let to : moved_on script before.cursors.entries b.pid b.call e.outcome ≡ cursors =
+        ap (λ (p : ℕ). moved_on script before.cursors.entries p b.call e.outcome) (sym g.pid)
+        ∙ ap (λ (c : Call). moved_on script before.cursors.entries e.pid c e.outcome) (sym g.call)
+        ∙ ap (λ (es : Numbered Cursor). moved_on script es e.pid e.call e.outcome) (sym h.cursors)
+        ∙ sym moved in
+        as-made line
+        ∙ same-made script sound before.kernel before.cursors.entries b.pid b.call b.due b.numberless b.grammar
+        old.kernel h.outcome h.step e.outcome steady
+        (ap (λ (o : Outcome). is_same_outcome o e.outcome) carried ∙ same) line
+        ∙ ap (λ (es : Numbered Cursor). Ok (so_far_of script old.kernel es)) to
+
+-- What is told of a line is told of it however it is cut.
+
+pub told-of : (r : Result Told Memory) (script : Script) (text cut : List ℕ) (old new : Judge) → text ≡ cut
+    → IfOk r (λ told. Tells told script cut old new) → IfOk r (λ told. Tells told script text old new)
+told-of r script text cut old new is h =
+    subst (λ (xs : List ℕ). IfOk r (λ told. Tells told script xs old new)) (sym is) h
+
+pub told-behind : (r : Result Told Memory) (script : Script) (pid : ℕ) (call : Call) (behind rest : List ℕ) (old new : Judge)
+    → strip (call_front script call) behind ≡ Some rest
+    → IfOk r (λ told. Tells told script (line_with script pid call rest) old new)
+    → IfOk r (λ told. Tells told script (decimal pid ++ behind) old new)
+told-behind r script pid call behind rest old new is h =
+    told-of r script (decimal pid ++ behind) (line_with script pid call rest) old new
+    (ap (λ (xs : List ℕ). decimal pid ++ xs) (strip_takes (call_front script call) behind rest is)) h
+
+pub told-by : (r : Result Told Memory) (script : Script) (pid : ℕ) (text behind : List ℕ) (old new : Judge)
+    → number_at 4294967295 text ≡ Some (pid, behind)
+    → IfOk r (λ told. Tells told script (decimal pid ++ behind) old new)
+    → IfOk r (λ told. Tells told script text old new)
+told-by r script pid text behind old new is h =
+    told-of r script text (decimal pid ++ behind) old new
+    (number-was 4294967295 (omega arith) text pid behind (omega arith) is).0 h

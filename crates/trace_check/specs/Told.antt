@@ -1,5 +1,5 @@
 -- A line judged beside the one that is expected: what that leaves, and what the judging of any line comes to.
-use Rattle.std.specs.Prelude.{◌≡◌, ℕ, ◌≤◌, Bool, true, false, List, [], ◌∷◌, ◌++◌, codes, decimal, Option, Some, None, Result, Ok, Err, IfSome}
+use Rattle.std.specs.Prelude.{◌≡◌, ℕ, ◌≤◌, Bool, true, false, List, [], ◌∷◌, ◌++◌, codes, decimal, Option, Some, None, Result, Ok, Err}
 use Rattle.std.specs.Option.{option_map_or}
 use Rattle.pico_base.specs.declared.call.Call.{Call}
 use Rattle.pico_base.specs.declared.call.Call.TheVariants.{Fork, Killed, MsgGet, SemGet, Withdraw}
@@ -15,7 +15,7 @@ use Rattle.trace_text.specs.Grammar.{is_call}
 use Rattle.trace_text.specs.Reading.{entry_in}
 use Rattle.trace_text.specs.Totals.{Counts, tally_of}
 use Rattle.trace_text.specs.declared.fault.CheckFault.{CheckFault}
-use Rattle.trace_text.specs.declared.fault.CheckFault.TheVariants.{NotATrace}
+use Rattle.trace_text.specs.declared.fault.CheckFault.TheVariants.{Memory, NotATrace}
 use Rattle.trace_check.specs.declared.cursor.Cursor.{Cursor}
 use Rattle.trace_check.specs.declared.judge.Judge.{Judge}
 use Rattle.trace_check.specs.declared.judge.lines.Told.{Told}
@@ -103,7 +103,12 @@ abbrev pub Judges : {A : Type 0} → Result A CheckFault → Script → ℕ → 
 Judges (Ok x) script line text old new = Goes script text old new
 Judges (Err fault) script line text old new = GivesFault fault (judge_text script line text old)
 
+-- the fault that was kept; want of memory says nothing
+abbrev pub kept_fault : Option CheckFault → CheckFault
+kept_fault None = Memory
+kept_fault (Some fault) = fault
+
 -- the same where the fault is kept
 abbrev pub Keeps : Bool → Script → ℕ → List ℕ → Judge → Judge → Type 0
 Keeps true script line text old new = Goes script text old new
-Keeps false script line text old new = IfSome new.fault (λ fault. GivesFault fault (judge_text script line text old))
+Keeps false script line text old new = GivesFault (kept_fault new.fault) (judge_text script line text old)

@@ -1,8 +1,8 @@
 //! A line judged: beside the one that is expected where a call of the script is due, and else by what is read of it.
-ghost use Rattle.std.specs.Prelude.{◌≡◌, ◌++◌, decimal, IfOk, IfSome, OnOk, IsTrue};
+ghost use Rattle.std.specs.Prelude.{◌≡◌, ◌≤◌, ◌++◌, decimal, IfOk, OnOk, IsTrue};
 ghost use Rattle.kernel_model.specs.Script.{IsSoundScript};
 ghost use Rattle.trace_check.specs.Cursors.{AreSteady};
-ghost use Rattle.trace_check.specs.Told.{Begun, HasCarried, IsBegun, IsDueAt, Judges, Keeps, Tells, call_front, is_numberless, line_with};
+ghost use Rattle.trace_check.specs.Told.{Begun, HasCarried, IsBegun, IsDueAt, Judges, Keeps, Tells, call_front, is_numberless, kept_fault, line_with};
 ghost use Rattle.trace_check.specs.declared.judge.Judge.{Judge as JudgeValue};
 ghost use Rattle.trace_text.specs.Grammar.{is_call};
 
@@ -71,6 +71,7 @@ impl Judge {
         scratch: &mut Vec<u8>,
     ) -> Result<Told, Memory>
         requires sound { IsSoundScript script.now }
+        requires small { pid ≤ 4294967295 }
         requires steady { AreSteady script.now self.old.cursors.entries }
         ensures told { IfOk result (λ told. Tells told script.now (decimal pid ++ behind.now) self.old self.new) }
         ensures steady { OnOk result (AreSteady script.now self.new.cursors.entries) }
@@ -97,6 +98,7 @@ impl Judge {
         scratch: &mut Vec<u8>,
     ) -> Result<Told, Memory>
         requires sound { IsSoundScript script.now }
+        requires small { pid ≤ 4294967295 }
         requires steady { AreSteady script.now self.old.cursors.entries }
         requires due { IsDueAt script.now self.old.cursors.entries pid call.now }
         ensures told { IfOk result (λ told. Tells told script.now (decimal pid ++ behind.now) self.old self.new) }
@@ -124,6 +126,7 @@ impl Judge {
         scratch: &mut Vec<u8>,
     ) -> Result<Told, Memory>
         requires sound { IsSoundScript script.now }
+        requires small { pid ≤ 4294967295 }
         requires steady { AreSteady script.now self.old.cursors.entries }
         requires due { IsDueAt script.now self.old.cursors.entries pid call.now }
         requires numberless { IsTrue (is_numberless call.now) }
@@ -277,7 +280,7 @@ impl Judge {
 
     /// The fault that was kept.
     pub(crate) fn fault(&mut self) -> CheckFault
-        ensures { IfSome self.old.fault (λ fault. result ≡ fault) }
+        ensures { result ≡ kept_fault self.old.fault }
     {
         match self.fault.take() {
             Some(fault) => fault,

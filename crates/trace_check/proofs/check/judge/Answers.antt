@@ -49,26 +49,18 @@ returns-then-branch c =
     (first_going (places_of c.args.script.now c.loop.judge.cursors.entries))) entries ∙ sym whole)
     c.totals.ensures
 
-pub returns-in_default-2 : goal.returns-in_default-2
-returns-in_default-2 c =
-    sym c.loop.invariant.so_far
-    ∙ judge-none c.args.script.now c.loop.line c.loop.left c.loop.invariant.done
+pub returns-then-not-branch : goal.returns-then-not-branch
+returns-then-not-branch c =
+    subst (λ (fault : CheckFault). GivesFault fault (verdict_of c.args.script.now c.args.bytes.now c.args.first_line))
+    (sym c.fault.ensures)
+    (subst (GivesFault (kept_fault c.line.new.self.fault)) c.loop.invariant.so_far
+    (judge-text c.args.script.now c.loop.line c.loop.left c.loop.invariant.done
     (so_far_of c.args.script.now c.loop.judge.kernel c.loop.judge.cursors.entries) c.loop.rest.now
     c.in-Some.text.now c.in-Some.after.now c.in-Some.ensures
-    (length c.args.bytes.now - c.loop.counter) (sym c.fits.ensures ∙ c.if-not-fits.false)
-    (sym (c.in_ok-is_totals.ensures c.loop.invariant.done c.loop.invariant.tally) ∙ c.if-branch.false)
-    (sym c.in_ok-entry.ensures ∙ c.in_default-2.is)
-
-pub returns-in-Err : goal.returns-in-Err
-returns-in-Err c =
-    subst (GivesFault c.in-Err.fault) c.loop.invariant.so_far
-    (judge-fault c.args.script.now c.loop.line c.loop.left c.loop.invariant.done
-    (so_far_of c.args.script.now c.loop.judge.kernel c.loop.judge.cursors.entries) c.loop.rest.now
-    c.in-Some.text.now c.in-Some.after.now c.in-Some.ensures
-    (length c.args.bytes.now - c.loop.counter) c.in-Some-2.entry (omega arith)
+    (length c.args.bytes.now - c.loop.counter) (omega arith)
     (sym c.fits.ensures ∙ c.if-not-fits.false)
     (sym (c.in_ok-is_totals.ensures c.loop.invariant.done c.loop.invariant.tally) ∙ c.if-branch.false)
-    (sym c.in_ok-entry.ensures ∙ c.in-Some-2.is) c.in-Err.fault c.in-Err.ensures.judged)
+    (kept_fault c.line.new.self.fault) (kept c)))
 
 pub loop-preserved : goal.loop-preserved
 loop-preserved c =
