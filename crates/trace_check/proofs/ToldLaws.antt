@@ -9,6 +9,7 @@ use Rattle.pico_base.specs.declared.call.Call.TheVariants as calls
 use Rattle.pico_base.specs.declared.reply.Entry.{Entry}
 use Rattle.pico_base.specs.declared.reply.Outcome.{Outcome}
 use Rattle.pico_base.specs.declared.script.Script.{Script}
+use Rattle.pico_base.specs.Options.{◌>>=◌}
 use Rattle.number_maps.specs.Maps.{Numbered, get}
 use Rattle.kernel_model.specs.History.{number_in}
 use Rattle.kernel_model.specs.Numbers.{is_u32, is_between}
@@ -27,7 +28,7 @@ use Rattle.text_fields.specs.Fields.{digit_at, number_at}
 use Rattle.text_fields.proofs.Chains.{bind_some, chosen}
 use Rattle.trace_text.specs.Expected.{EndsWith}
 use Rattle.trace_text.specs.Grammar.{is_call, is_outcome, is_entry}
-use Rattle.trace_text.specs.Reading.{made_at, entry_at, entry_in, entry_if, replied_at}
+use Rattle.trace_text.specs.Reading.{by_at, ended_entry, entry_at, entry_if, entry_in, entry_of, has_ended, made_at, own_at, replied_at, wakes_at}
 use Rattle.trace_text.specs.Totals.{Counts, tally_of}
 use Rattle.trace_text.specs.declared.fault.CheckFault.{CheckFault}
 use Rattle.trace_text.specs.declared.fault.CheckFault.TheVariants.{Illegal, NotATrace, NotTheScript}
@@ -150,17 +151,34 @@ reads-expected script pid call rest outcome sound small grammar e =
     (and_from (is_call script call) (is_outcome outcome && is_between 1 32 e.node) grammar
     (and_from (is_outcome outcome) (is_between 1 32 e.node) e.fits node)) in
     let text : entry_line script entry ≡ line_with script pid call rest ++ 10 ∷ [] =
-    ends (decimal pid) (call_text script call) (own_text outcome.own ++ by_text e.node outcome.woken) rest e.text in
+    ends (decimal pid) (call_text script call) (own_text outcome.own) (by_text e.node outcome.woken) rest e.text in
     entry-reads script (line_with script pid call rest) entry sound there text
   where
-    ends : (p c end rest : List ℕ) → end ≡ rest ++ 10 ∷ []
-        → (p ++ 32 ∷ c) ++ codes " = " ++ end ≡ (p ++ ((32 ∷ (c ++ codes " = ")) ++ rest)) ++ 10 ∷ []
-    ends p c end rest is = rw is (simp append_assoc)
+    ends : (p c own by rest : List ℕ) → own ++ by ≡ rest ++ 10 ∷ []
+        → (p ++ 32 ∷ c) ++ codes " = " ++ own ++ by ≡ (p ++ ((32 ∷ (c ++ codes " = ")) ++ rest)) ++ 10 ∷ []
+    ends p c own by rest is =
+        let front : (p ++ 32 ∷ c) ++ codes " = " ++ own ++ by ≡ p ++ 32 ∷ (c ++ (codes " = " ++ (own ++ by))) =
+        simp append_assoc in
+        let back : (p ++ ((32 ∷ (c ++ codes " = ")) ++ rest)) ++ 10 ∷ []
+        ≡ p ++ 32 ∷ (c ++ (codes " = " ++ (rest ++ 10 ∷ []))) =
+        simp append_assoc in
+        front ∙ ap (λ (xs : List ℕ). p ++ 32 ∷ (c ++ (codes " = " ++ xs))) is ∙ sym back
 
 -- What is read of a line that begins with a call has that process and that call.
 pub record HasBegun (p : ℕ) (c : Call) (e : Entry) : Type 0 where
   pub pid : e.pid ≡ p
   pub call : e.call ≡ c
+
+replied-made : (m : ℕ × Call) (bytes : List ℕ) (x : Entry) → replied_at m bytes ≡ Some x → HasBegun m.0 m.1 x
+replied-made m bytes x h =
+    let f = bind_some (strip (codes " = ") bytes)
+    (λ front. own_at front >>= λ own. by_at own.1 >>= λ node. ended_entry m own.0 node.0 (wakes_at node.1)) x h in
+    let o = bind_some (own_at f.0) (λ own. by_at own.1 >>= λ node. ended_entry m own.0 node.0 (wakes_at node.1)) x f.2 in
+    let n = bind_some (by_at o.0.1) (λ node. ended_entry m o.0.0 node.0 (wakes_at node.1)) x o.2 in
+    let entry : Entry = entry_of m o.0.0 n.0.0 (wakes_at n.0.1).0 in
+    let w = chosen (has_ended (wakes_at n.0.1).1) (Some entry) x n.2 in
+    let is : entry ≡ x = same_Some entry x w.1 in
+    record { pid = sym (ap (λ (y : Entry). y.pid) is); call = sym (ap (λ (y : Entry). y.call) is) }
 
 pub begins : (script : Script) (pid : ℕ) (call : Call) (rest : List ℕ) (e : Entry)
     → IsSoundScript script → pid ≤ 4294967295 → is_call script call ≡ true
@@ -176,21 +194,11 @@ begins script pid call rest e sound small grammar read =
     ap (made_at script) front ∙ made-again script pid call (32 ∷ rest) sound small grammar in
     let m = bind_some (made_at script line) (λ made. replied_at made.0 made.1) b.0 b.1 in
     let which : m.0 ≡ ((pid, call), 32 ∷ 61 ∷ (32 ∷ rest)) = same_Some m.0 _ (sym m.1 ∙ is) in
-    let r = replied m.0.0 m.0.1 b.0 m.2 in
+    let r = replied-made m.0.0 m.0.1 b.0 m.2 in
     record {
       pid = ap (λ (x : Entry). x.pid) (sym same) ∙ r.pid ∙ ap (λ (q : (ℕ × Call) × List ℕ). q.0.0) which;
       call = ap (λ (x : Entry). x.call) (sym same) ∙ r.call ∙ ap (λ (q : (ℕ × Call) × List ℕ). q.0.1) which;
     }
-  where
-    replied : (made : ℕ × Call) (bytes : List ℕ) (x : Entry) → replied_at made bytes ≡ Some x
-        → HasBegun made.0 made.1 x
-    replied made bytes x h =
-        let f = bind_some _ _ x h in
-        let o = bind_some _ _ x f.2 in
-        let n = bind_some _ _ x o.2 in
-        let w = chosen _ (Some _) x n.2 in
-        let is = same_Some _ x w.1 in
-        record { pid = sym (ap (λ (y : Entry). y.pid) is); call = sym (ap (λ (y : Entry). y.call) is) }
 
 -- An entry that has no fault on one line has none on any.
 pub any-line : (script : Script) (line other : ℕ) (so_far after : SoFar) (e : Entry)

@@ -1,7 +1,10 @@
 //! A trace's verdict.
-ghost use Rattle.std.specs.Prelude.{◌≡◌, ◌⊎◌, ◌≤◌, ◌<◌, ◌^◌, List, length, IfOk, Ok, Err};
+ghost use Rattle.std.specs.Prelude.{◌≡◌, ◌⊎◌, ◌≤◌, ◌<◌, ◌^◌, ◌∷◌, [], List, length, IfOk, Ok, Err};
 ghost use Rattle.pico_base.specs.declared.reply.Entry.{Entry as EntryValue};
 ghost use Rattle.kernel_model.specs.Script.{IsSoundScript};
+ghost use Rattle.waiting_model.specs.Kernel.{opening};
+ghost use Rattle.trace_text.specs.Totals.{tally_of};
+ghost use Rattle.trace_check.specs.Cursors.{beginning};
 ghost use Rattle.trace_check.specs.FirstFault.{CountsLegal, Gives, IsLegalTrace, verdict_of};
 
 use crate::judge::Judge;
@@ -18,13 +21,20 @@ pub struct Legal {
 }
 
 /// Judges the lines in order, up to the first fault.
-fn judge(alloc: Global, script: &Script, bytes: &[u8], first_line: u32) -> Result<Legal, CheckFault>
+fn judge_lines(
+    judge: &mut Judge,
+    scratch: &mut Vec<u8>,
+    script: &Script,
+    bytes: &[u8],
+    first_line: u32,
+) -> Result<Legal, CheckFault>
     requires sound { IsSoundScript script.now }
     requires first { first_line < 2 ^ 31 }
+    requires kernel { judge.old.kernel ≡ opening }
+    requires cursors { judge.old.cursors.entries ≡ (1, beginning 1 []) ∷ [] }
+    requires tally { judge.old.tally ≡ tally_of [] }
     ensures { Gives result (verdict_of script.now bytes.now first_line) }
 {
-    let mut judge = Judge::new(alloc)?;
-    let mut scratch = Vec::new(alloc);
     let mut rest = bytes;
     let mut left = MAX_TRACE;
     let mut line = first_line;
@@ -35,10 +45,10 @@ fn judge(alloc: Global, script: &Script, bytes: &[u8], first_line: u32) -> Resul
         if !fits(left, text) {
             return Err(CheckFault::NotATrace { line });
         }
-        if judge.is_totals(text, &mut scratch)? {
+        if judge.is_totals(text, scratch)? {
             return judge.totals(script, line, line - first_line, after);
         }
-        if !judge.line(script, line, text, &mut scratch)? {
+        if !judge.line(script, line, text, scratch)? {
             return Err(judge.fault());
         }
         left -= text.len() + 1;
@@ -46,6 +56,17 @@ fn judge(alloc: Global, script: &Script, bytes: &[u8], first_line: u32) -> Resul
         rest = after;
     }
     Err(CheckFault::NotATrace { line })
+}
+
+/// Judges the lines from the opening on.
+fn judge(alloc: Global, script: &Script, bytes: &[u8], first_line: u32) -> Result<Legal, CheckFault>
+    requires sound { IsSoundScript script.now }
+    requires first { first_line < 2 ^ 31 }
+    ensures { Gives result (verdict_of script.now bytes.now first_line) }
+{
+    let mut judge = Judge::new(alloc)?;
+    let mut scratch = Vec::new(alloc);
+    judge_lines(&mut judge, &mut scratch, script, bytes, first_line)
 }
 
 /// Judges the bytes of a trace of a script, whose first line has the number `first_line`. Legal comes exactly where the

@@ -4,7 +4,7 @@ use Rattle.trace_check.specs.Cursors.{AreSteady}
 use Rattle.trace_check.specs.FirstFault.{judge_from, verdict_of}
 use Rattle.trace_check.specs.Judging.{so_far_of}
 use Rattle.trace_text.specs.Totals.{tally_of}
-use Rattle.trace_check.proofs.check.judge.Given as goal
+use Rattle.trace_check.proofs.check.judge_lines.Given as goal
 
 -- the entries so far, and the lines that are left behind them
 abbrev pub invariant-loop : goal.invariant-loop
