@@ -1,8 +1,8 @@
 -- What comes of a line that is held beside the one that is expected.
-use Rattle.std.proofs.Common.{◌≡◌, inl, ◌∙◌, ℕ, ◌≤◌, Bool, true, false, not, ◌&&◌, cond, leb, List, [], ◌∷◌, ◌++◌, Option, Some, None, is_some, refl, sym, ap, subst, append_assoc, arith}
+use Rattle.std.proofs.Common.{◌≡◌, inl, ◌∙◌, ℕ, ◌≤◌, Bool, true, false, ◌&&◌, cond, leb, List, [], ◌∷◌, ◌++◌, Option, Some, None, is_some, refl, sym, ap, subst, append_assoc, arith}
 use Rattle.std.specs.Prelude.{codes, decimal, Result, Ok, Err, IfOk, OnOk}
 use Rattle.std.specs.Option.{option_map_or}
-use Rattle.std.proofs.lemmas.Bool.{and_parts, and_from, le-leb, lt-ltb}
+use Rattle.std.proofs.lemmas.Bool.{and_from, le-leb, lt-ltb}
 use Rattle.std.proofs.lemmas.Option.{same_Some}
 use Rattle.pico_base.specs.declared.call.Call.{Call}
 use Rattle.pico_base.specs.declared.call.Call.TheVariants as calls
@@ -10,7 +10,7 @@ use Rattle.pico_base.specs.declared.reply.Entry.{Entry}
 use Rattle.pico_base.specs.declared.reply.Outcome.{Outcome}
 use Rattle.pico_base.specs.declared.script.Script.{Script}
 use Rattle.pico_base.specs.Options.{◌>>=◌}
-use Rattle.number_maps.specs.Maps.{Numbered, get}
+use Rattle.number_maps.specs.Maps.{Numbered}
 use Rattle.kernel_model.specs.History.{number_in}
 use Rattle.kernel_model.specs.Numbers.{is_u32, is_between}
 use Rattle.kernel_model.specs.Script.{IsSoundScript}
@@ -23,13 +23,12 @@ use Rattle.waiting_model.specs.Kernel.{Kernel, living_at}
 use Rattle.waiting_model.specs.Transition.{Successor, successor, effect_by, may_make, outcome_of, transition, transition_by, step_by}
 use Rattle.waiting_model.specs.Effect.{Effect}
 use Rattle.waiting_model.specs.Fitting.{IsNext, Progress}
-use Rattle.waiting_laws.specs.Parked.{mark_in}
-use Rattle.text_fields.specs.Fields.{digit_at, number_at}
+use Rattle.text_fields.specs.Fields.{number_at}
 use Rattle.text_fields.proofs.Chains.{bind_some, chosen}
 use Rattle.trace_text.specs.Expected.{EndsWith}
 use Rattle.trace_text.specs.Grammar.{is_call, is_outcome, is_entry}
 use Rattle.trace_text.specs.Reading.{by_at, ended_entry, entry_at, entry_if, entry_in, entry_of, has_ended, made_at, own_at, replied_at, wakes_at}
-use Rattle.trace_text.specs.Totals.{Counts, tally_of}
+use Rattle.trace_text.specs.Totals.{tally_of}
 use Rattle.trace_text.specs.declared.fault.CheckFault.{CheckFault}
 use Rattle.trace_text.specs.declared.fault.CheckFault.TheVariants.{Illegal, NotATrace, NotTheScript}
 use Rattle.quoted_bytes.specs.Front.{strip}
@@ -40,13 +39,12 @@ use Rattle.trace_check.specs.declared.cursor.Cursor.{Cursor}
 use Rattle.trace_check.specs.declared.judge.Judge.{Judge}
 use Rattle.pico_base.specs.declared.fault.Memory.{Memory}
 use Rattle.trace_check.specs.declared.judge.lines.Told.{Told}
-use Rattle.trace_check.specs.Cursors.{AreSteady, IsIdle, MayMake, MayMakeAt, may_come_in, moved_on, place_of, progress_of}
+use Rattle.trace_check.specs.Cursors.{AreSteady, MayMake, MayMakeAt, may_come_in, moved_on, place_of, progress_of}
 use Rattle.trace_check.specs.FirstFault.{SoFar, GivesFault, due_at, is_same_outcome, judge_entry, judge_made, judge_outcome, last_doom, may_come, or_fault, with_call}
 use Rattle.trace_check.specs.Judging.{so_far_of, Yields}
-use Rattle.trace_check.specs.Told.{Goes, HasCarried, IsBegun, IsDueAt, Judges, Keeps, Stays, Tells, call_front, is_numberless, judge_text, line_with}
+use Rattle.trace_check.specs.Told.{HasCarried, IsBegun, IsDueAt, Judges, Stays, Tells, call_front, is_numberless, judge_text, line_with}
 use Rattle.trace_check.proofs.Entries.{next-follows}
 use Rattle.trace_check.proofs.JudgeLaws.{illegal, made}
-use Rattle.trace_check.proofs.SameTexts.{outcome-itself}
 
 -- A call that makes nothing has the same effect whatever number is chosen.
 

@@ -9,11 +9,10 @@ use Rattle.pico_base.specs.declared.script.Script.{Script}
 use Rattle.number_maps.specs.Maps.{Numbered, get}
 use Rattle.kernel_model.specs.Fitting.{due}
 use Rattle.kernel_model.specs.Trace.{call_text}
-use Rattle.waiting_model.specs.Kernel.{Kernel}
 use Rattle.waiting_model.specs.Transition.{successor, transition}
 use Rattle.trace_text.specs.Grammar.{is_call}
 use Rattle.trace_text.specs.Reading.{entry_in}
-use Rattle.trace_text.specs.Totals.{Counts, tally_of}
+use Rattle.trace_text.specs.Totals.{tally_of}
 use Rattle.trace_text.specs.declared.fault.CheckFault.{CheckFault}
 use Rattle.trace_text.specs.declared.fault.CheckFault.TheVariants.{Memory, NotATrace}
 use Rattle.trace_check.specs.declared.cursor.Cursor.{Cursor}

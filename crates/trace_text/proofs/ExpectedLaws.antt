@@ -1,9 +1,9 @@
 -- What the end of a line is, by what was read or printed of it.
-use Rattle.std.proofs.Common.{◌≡◌, ◌∙◌, ℕ, ◌≤◌, Bool, true, false, cond, leb, eqb, length, List, [], ◌∷◌, ◌++◌, Option, Some, None, refl, sym, ap, append_assoc, arith}
+use Rattle.std.proofs.Common.{◌≡◌, ◌∙◌, ℕ, ◌≤◌, true, cond, leb, eqb, length, List, [], ◌∷◌, ◌++◌, Some, None, refl, sym, ap, append_assoc, arith}
 use Rattle.std.specs.Prelude.{codes, decimal}
 use Rattle.std.proofs.lemmas.Bool.{leb-true, eqb-true}
 use Rattle.std.proofs.lemmas.List.{append-nil}
-use Rattle.std.proofs.lemmas.Option.{same_Some, none-some}
+use Rattle.std.proofs.lemmas.Option.{same_Some}
 use Rattle.pico_base.specs.Options.{◌>>=◌}
 use Rattle.pico_base.specs.declared.reply.Outcome.{Outcome}
 use Rattle.kernel_model.specs.Numbers.{is_u32}

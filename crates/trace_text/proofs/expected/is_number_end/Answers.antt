@@ -1,5 +1,4 @@
-use Rattle.std.proofs.Common.{◌≡◌, ◌∙◌, ℕ, List, [], ◌∷◌, length, Some, refl, sym, ap, arith, rules}
-use Rattle.std.proofs.lemmas.Bool.{eqb-true}
+use Rattle.std.proofs.Common.{◌≡◌, ◌∙◌, ℕ, List, [], Some, sym, ap, rules}
 use Rattle.trace_text.proofs.ExpectedLaws.{number-ends, none-left}
 use Rattle.trace_text.proofs.expected.is_number_end.Goals as goal
 

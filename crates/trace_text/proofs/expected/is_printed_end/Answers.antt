@@ -1,4 +1,4 @@
-use Rattle.std.proofs.Common.{◌≡◌, ◌∙◌, ℕ, List, sym, ap}
+use Rattle.std.proofs.Common.{◌∙◌, ℕ, List, sym, ap}
 use Rattle.pico_base.specs.declared.reply.Reply.{Reply}
 use Rattle.kernel_model.specs.Trace.{by_text}
 use Rattle.trace_text.proofs.ExpectedLaws.{printed-ends, cleared}

@@ -1,4 +1,4 @@
-use Rattle.std.proofs.Common.{◌∙◌, ℕ, Ok, refl, sym, ap}
+use Rattle.std.proofs.Common.{◌∙◌, Ok, refl, sym, ap}
 use Rattle.number_maps.specs.Maps.{Numbered}
 use Rattle.trace_text.specs.Expected.{EndsWith}
 use Rattle.trace_check.specs.declared.cursor.Cursor.{Cursor}

@@ -1,4 +1,4 @@
-use Rattle.std.proofs.Common.{◌≡◌, ◌∙◌, Some, Err, refl, sym, ap}
+use Rattle.std.proofs.Common.{◌∙◌, Some, Err, refl, sym, ap}
 use Rattle.pico_base.specs.declared.reply.Outcome.{Outcome}
 use Rattle.trace_text.specs.declared.fault.CheckFault.TheVariants.{Illegal}
 use Rattle.trace_check.proofs.ToldLaws.{begun-may, carried-other, carried-same}

@@ -1,4 +1,3 @@
-use Rattle.std.proofs.Common.{◌≡◌, ◌∙◌, sym, ap}
 use Rattle.std.proofs.lemmas.Result.{on_ok_weaker}
 use Rattle.trace_text.proofs.Tallies.{tally-made}
 use Rattle.trace_text.proofs.totals.Tally.add_call.Goals as goal
