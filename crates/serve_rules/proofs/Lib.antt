@@ -1,3 +1,2 @@
-mod Making
 mod Here
 mod Served
