@@ -323,14 +323,16 @@ pub told-of : (r : Result Told Memory) (script : Script) (text cut : List ℕ) (
 told-of r script text cut old new is h =
     subst (λ (xs : List ℕ). IfOk r (λ told. Tells told script xs old new)) (sym is) h
 
-pub told-behind : (r : Result Told Memory) (script : Script) (pid : ℕ) (call : Call) (behind rest : List ℕ) (old new : Judge)
-    → strip (call_front script call) behind ≡ Some rest
+-- cut behind the call that is due
+pub told-behind : (r : Result Told Memory) (script : Script) (pid : ℕ) (call : Call) (behind rest : List ℕ)
+    (old new : Judge) → strip (call_front script call) behind ≡ Some rest
     → IfOk r (λ told. Tells told script (line_with script pid call rest) old new)
     → IfOk r (λ told. Tells told script (decimal pid ++ behind) old new)
 told-behind r script pid call behind rest old new is h =
     told-of r script (decimal pid ++ behind) (line_with script pid call rest) old new
     (ap (λ (xs : List ℕ). decimal pid ++ xs) (strip_takes (call_front script call) behind rest is)) h
 
+-- cut behind the number of the process
 pub told-by : (r : Result Told Memory) (script : Script) (pid : ℕ) (text behind : List ℕ) (old new : Judge)
     → number_at 4294967295 text ≡ Some (pid, behind)
     → IfOk r (λ told. Tells told script (decimal pid ++ behind) old new)

@@ -21,7 +21,8 @@ returns-then-not-branch-clause-told c = record {
   };
   outcome = c.in-Ok.outcome;
   other = refl;
-  step = λ n. numberless c.args.self.now.kernel c.args.pid c.args.call.now n 0 c.requires.numberless ∙ c.in-Ok.ensures.ok;
+  step = λ n. numberless c.args.self.now.kernel c.args.pid c.args.call.now n 0 c.requires.numberless
+      ∙ c.in-Ok.ensures.ok;
   cursors = refl;
   tally = refl;
 }
