@@ -1,5 +1,5 @@
 -- The limits of a queue and of those who wait at it (profile), and which calls may wait there.
-use Rattle.std.specs.Prelude.{◌≡◌, ℕ, Bool, true, false, ◌≤◌, pos, ◌≤ℤ◌, FitsSigned, List, length}
+use Rattle.std.specs.Prelude.{◌≡◌, Bool, true, false, ◌≤◌, pos, ◌≤ℤ◌, FitsSigned, length}
 use Rattle.std.specs.Int.{w32}
 use Rattle.std.specs.List.{AllByRecursion}
 use Rattle.pico_base.specs.declared.call.Call.{Call}

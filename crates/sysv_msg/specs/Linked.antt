@@ -1,5 +1,6 @@
 -- The messages of a queue by their slots, and which of them a receive asks for.
-use Rattle.std.specs.Prelude.{◌≡◌, ℕ, ℤ, zero, suc, pos, negsuc, List, map, Option, Some, None, remove, slice_get}
+use Rattle.std.specs.Prelude.{◌≡◌, ℕ, ℤ, zero, suc, pos, negsuc, Bool, true, int_le, List, map, Option, Some, None, remove, slice_get}
+use Rattle.std.specs.Ordering.{int_eq}
 use Rattle.index_links.specs.Nodes.{Node, node_at, without, first_slot, first_slot_of, least_upto}
 use Rattle.kernel_model.specs.Queue.{Message, select}
 
@@ -9,6 +10,13 @@ message_of n = record { class = n.class; text = n.value }
 
 abbrev pub messages_of : List (Node (List ℕ)) → List Message
 messages_of ns = map message_of ns
+
+-- a receive of the first type asks for a message of the second: of any for 0, of this one where it is positive, and of
+-- one that isn't above its absolute value where it is negative
+abbrev pub asks_for : ℤ → ℤ → Bool
+asks_for (pos zero) of = true
+asks_for (pos (suc n)) of = int_eq of (pos (suc n))
+asks_for (negsuc n) of = int_le of (pos (suc n))
 
 -- the slot of the message that a receive of this type asks for
 module _ {V : Type 0} where

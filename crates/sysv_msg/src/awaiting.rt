@@ -7,6 +7,7 @@ ghost use Rattle.waiting_model.specs.Queue.{try_queue, carry_out_on_queue};
 ghost use Rattle.waiter_fields.specs.Settling.{IsCarried, IsSettling, IsTaken, WakesAt, WakesFirst, is_waiter};
 ghost use Rattle.sysv_msg.specs.Refusals.{RefusesSend};
 
+use crate::room::Room;
 use crate::store::Store;
 use crate::{Message, SendFault};
 use pico_base::{Bytes, Call, Errno, Memory, Node, Pid, Reply};
@@ -32,6 +33,8 @@ fn callers(alloc: Global, waiters: &[Waiting]) -> Result<Vec<Node>, Memory>
 pub(crate) struct Awaiting {
     pub(crate) store: Store,
     pub(crate) waiters: Vec<Waiting>,
+    // where a change writes whom it wakes, once somebody has waited
+    room: Option<Box<Room>>,
 }
 
 impl Model for Awaiting {
@@ -51,9 +54,18 @@ impl Awaiting {
     pub(crate) fn new(alloc: Global) -> Awaiting
         ensures { result ≡ unawaited empty_queue }
     {
+        Awaiting::of(Store::new(alloc), Vec::new(alloc))
+    }
+
+    /// These messages, for which there is more memory than waiters, and those who wait.
+    pub(crate) fn of(store: Store, waiters: Vec<Waiting>) -> Awaiting
+        requires { length waiters.items ≤ store.room }
+        ensures { result ≡ awaited store.queue waiters.items }
+    {
         Awaiting {
-            store: Store::new(alloc),
-            waiters: Vec::new(alloc),
+            store,
+            waiters,
+            room: None,
         }
     }
 
@@ -103,29 +115,34 @@ impl Awaiting {
             let (own, wakes) = (None, Wakes::new(alloc));
             return Ok(Applied { own, wakes });
         }
-        let Ok(room) = Vec::with_capacity(alloc, self.waiters.len()) else {
+        if self.waiters.is_empty() {
+            let own = Some(self.store.perform(who.pid, who.call));
+            let wakes = Wakes::new(alloc);
+            return Ok(Applied { own, wakes });
+        }
+        let Ok(mut room) = Room::of(alloc, self.room.take(), self.waiters.len()) else {
             return Err((Memory, who));
         };
-        let Waiting { pid, call, .. } = who;
-        let own = Some(self.store.perform(pid, call));
-        let wakes = Wakes::from_vec(self.settle(room));
+        let own = Some(self.store.perform(who.pid, who.call));
+        self.settle(&mut room.all);
+        let wakes = room.take(alloc);
+        self.room = Some(room);
         Ok(Applied { own, wakes })
     }
 
     /// Wakes each who can go on, in order, from the first on again after each.
-    fn settle(&mut self, mut wakes: Vec<Wake>) -> Vec<Wake>
-        requires nobody { wakes.items ≡ [] }
-        requires room { length self.old.waiters ≤ vec_capacity wakes }
-        ensures { IsSettling (settle try_queue self.old) self.new result.items }
+    fn settle(&mut self, wakes: &mut Vec<Wake>)
+        requires nobody { wakes.old.items ≡ [] }
+        requires room { length self.old.waiters ≤ vec_capacity wakes.old }
+        ensures { IsSettling (settle try_queue self.old) self.new wakes.new.items }
     {
         let all = self.len();
         for round in 0..all {
             match self.wake_first() {
                 Some(wake) => wakes.push_reserved(wake),
-                None => return wakes,
+                None => return,
             }
         }
-        wakes
     }
 
     /// Wakes the first who can go on, if there is one.

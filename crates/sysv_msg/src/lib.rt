@@ -13,6 +13,7 @@ mod pack;
 mod packed;
 mod queue;
 mod reading;
+mod room;
 mod store;
 mod tail;
 mod unpack;

@@ -1,10 +1,11 @@
 //! Which of a queue's messages a receive asks for.
-ghost use Rattle.std.specs.Prelude.{◌≡◌, ℤ, pos, ◌-ℤ◌, ◌<ℤ◌, FitsSigned, MatchOption, int_le};
+ghost use Rattle.std.specs.Prelude.{◌≡◌, ℤ, pos, ◌-ℤ◌, ◌<ℤ◌, FitsSigned, MatchOption, int_le, length};
 ghost use Rattle.std.specs.Int.{w32};
 ghost use Rattle.std.specs.List.{AllByRecursion};
-ghost use Rattle.kernel_model.specs.Queue.{select};
+ghost use Rattle.kernel_model.specs.Queue.{Queue, select};
 ghost use Rattle.sysv_msg.specs.Limits.{IsSendable};
-ghost use Rattle.sysv_msg.specs.Linked.{messages_of, slot_for, IsSelected};
+ghost use Rattle.sysv_msg.specs.Going.{can_receive};
+ghost use Rattle.sysv_msg.specs.Linked.{asks_for, messages_of, slot_for, IsSelected};
 
 use index_links::{Links, Slot};
 use pico_base::Bytes;
@@ -25,6 +26,30 @@ fn slot_of_lowest(links: &Links<Bytes>, class: i32) -> Option<Slot>
 {
     let least = links.least_class_upto(bound_of(class))?;
     links.first_of(least)
+}
+
+/// Whether a receive of the first type asks for a message of the second.
+#[inline(always)]
+fn asks_for(class: i32, of: i32) -> bool
+    ensures { result ≡ asks_for class of }
+{
+    if class < 0 {
+        of <= bound_of(class)
+    } else {
+        class == 0 || of == class
+    }
+}
+
+/// Whether a receive of this type asks for the only message.
+#[inline(always)]
+pub(crate) fn is_only_of(links: &Links<Bytes>, class: i32) -> bool
+    requires { length links.now.nodes ≡ 1 }
+    ensures { (q : Queue) → q.messages ≡ messages_of links.now.nodes → result ≡ can_receive q class }
+{
+    match links.first() {
+        Some(slot) => asks_for(class, links.class(slot)),
+        None => false,
+    }
 }
 
 /// The slot of the message that a receive of this type asks for: of the first message for 0, of the first of this

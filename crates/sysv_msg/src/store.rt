@@ -8,7 +8,7 @@ ghost use Rattle.sysv_msg.specs.Linked.{messages_of};
 ghost use Rattle.sysv_msg.specs.Going.{can_send, can_receive, reply_of_message};
 
 use crate::Message;
-use crate::links::selected;
+use crate::links::{is_only_of, selected};
 use index_links::Links;
 use pico_base::{Bytes, Call, Errno, Memory, Pid, Reply};
 use std::alloc::Global;
@@ -229,13 +229,14 @@ impl Store {
         class < 1 || len > MAX_TEXT || self.has_room(len)
     }
 
-    /// Whether a message is selected.
+    /// Whether a message is selected. Where there is one at most its type alone is looked at.
     fn can_receive(&self, class: i32) -> bool
         ensures { result ≡ can_receive self.now.queue class }
     {
-        match selected(&self.messages, class) {
-            Some(_) => true,
-            None => false,
+        match self.messages.len() {
+            0 => false,
+            1 => is_only_of(&self.messages, class),
+            _ => selected(&self.messages, class).is_some(),
         }
     }
 

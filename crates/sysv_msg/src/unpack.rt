@@ -112,7 +112,7 @@ fn settled(store: Store, waiters: Vec<Waiting>) -> Result<Awaiting, UnpackFault>
     if !all_wait(&store, waiters.as_slice()) {
         return Err(UnpackFault::NotABody);
     }
-    Ok(Awaiting { store, waiters })
+    Ok(Awaiting::of(store, waiters))
 }
 
 /// The queue and those who wait, behind the code.
