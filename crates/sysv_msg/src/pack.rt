@@ -86,7 +86,7 @@ impl Store {
     fn size(&self) -> usize
         ensures { result ≤ 32768 }
     {
-        15 + 8 * self.messages.len() as usize + self.bytes
+        15 + 8 * self.messages.len() as usize + self.bytes as usize
     }
 
     /// Adds the code and the queue's numbers at the end.

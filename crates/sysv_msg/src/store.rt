@@ -26,8 +26,8 @@ pub(crate) const MAX_MESSAGES: u32 = 1024;
 #[derive(Drop)]
 pub(crate) struct Store {
     pub(crate) messages: Links<Bytes>,
-    // the bytes of the texts
-    pub(crate) bytes: usize,
+    // the bytes of the texts, in a type that is wide enough: a body of few bytes is moved without a call
+    pub(crate) bytes: u32,
     pub(crate) qbytes: u32,
     pub(crate) last_sender: Pid,
     pub(crate) last_receiver: Pid,
@@ -151,8 +151,8 @@ impl Store {
         ensures { result ≡ (nat_le (bytes_in self.now.queue + len) self.now.queue.qbytes
             && nat_lt (length self.now.queue.messages) max_messages) }
     {
-        self.qbytes as usize >= self.bytes
-            && len <= self.qbytes as usize - self.bytes
+        self.qbytes >= self.bytes
+            && len <= (self.qbytes - self.bytes) as usize
             && self.messages.len() < MAX_MESSAGES
     }
 
@@ -185,7 +185,7 @@ impl Store {
         if !self.has_room(text.len()) {
             return Err(Errno::Eagain);
         }
-        self.bytes += text.len();
+        self.bytes += text.len() as u32;
         push(&mut self.messages, class, text);
         self.last_sender = pid;
         Ok(())
@@ -214,7 +214,7 @@ impl Store {
         }
         let kind = self.messages.class(slot);
         let text = self.messages.unlink(slot);
-        self.bytes -= length;
+        self.bytes -= length as u32;
         self.last_receiver = pid;
         Ok(Message {
             class: kind,

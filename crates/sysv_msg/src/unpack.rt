@@ -127,7 +127,7 @@ fn fields_of(alloc: Global, bytes: &[u8]) -> Result<Awaiting, UnpackFault>
     let waiters = waiters_of(alloc, rest)?;
     let store = Store {
         messages,
-        bytes: size,
+        bytes: size as u32,
         qbytes,
         last_sender: Pid(sender),
         last_receiver: Pid(receiver),

@@ -154,12 +154,66 @@ fn wake(
     replied(alloc, room, reply)
 }
 
+/// Carries out a call that isn't a look, where nobody waits: it wakes nobody.
+fn change_alone(
+    alloc: Global,
+    row: &mut Row,
+    waiters: &mut Links<Waiting>,
+    who: &Asker,
+    call: &Call,
+) -> Result<Came, Memory>
+    requires other { is_look call.now ≡ false }
+    requires nobody { length waiters.old.nodes ≡ 0 }
+    ensures carried { IfOk result (λ came. carry_out try_set (held row.old waiters.old.nodes) (asking who.now call.now)
+        ≡ carried_to (held row.new waiters.new.nodes) came.applied) }
+    ensures takers { IfOk result (λ came.
+        NotesTakers came.applied.wakes came.takers.items (takers (waiters_in waiters.old.nodes))) }
+    ensures row { OnErr result (row.new ≡ row.old) }
+    ensures nodes { OnErr result (waiters.new.nodes ≡ waiters.old.nodes) }
+{
+    match row.try_change(who.pid, call) {
+        Some(reply) => Ok(alone(alloc, Some(reply))),
+        None => park(alloc, waiters, who, call),
+    }
+}
+
+/// Carries out a call that isn't a look, with room for all whom it may wake.
+fn change_with(
+    alloc: Global,
+    row: &mut Row,
+    waiters: &mut Links<Waiting>,
+    room: &mut Room,
+    who: &Asker,
+    call: &Call,
+) -> Result<Came, Memory>
+    requires other { is_look call.now ≡ false }
+    requires no_wakes { room.old.wakes.items ≡ [] }
+    requires no_takers { room.old.takers.items ≡ [] }
+    requires fit { length waiters.old.nodes ≤ vec_capacity room.old.wakes }
+    requires takers_fit { length waiters.old.nodes ≤ vec_capacity room.old.takers }
+    requires each { AllByRecursion IsSetWaiter (waiters_in waiters.old.nodes) }
+    ensures carried { IfOk result (λ came. carry_out try_set (held row.old waiters.old.nodes) (asking who.now call.now)
+        ≡ carried_to (held row.new waiters.new.nodes) came.applied) }
+    ensures takers { IfOk result (λ came.
+        NotesTakers came.applied.wakes came.takers.items (takers (waiters_in waiters.old.nodes))) }
+    ensures row { OnErr result (row.new ≡ row.old) }
+    ensures nodes { OnErr result (waiters.new.nodes ≡ waiters.old.nodes) }
+{
+    let Some(reply) = row.try_change(who.pid, call) else {
+        return park(alloc, waiters, who, call);
+    };
+    if !may_wake(row, waiters) {
+        return Ok(alone(alloc, Some(reply)));
+    }
+    Ok(wake(alloc, row, waiters, room, reply))
+}
+
 /// Carries out a call that isn't a look. There is memory for all whom it may wake before anything changes.
 fn change(
     alloc: Global,
     row: &mut Row,
     waiters: &mut Links<Waiting>,
-    room: &mut Room,
+    kept: &mut Option<Box<Room>>,
     who: &Asker,
     call: &Call,
 ) -> Result<Came, Memory>
@@ -172,21 +226,20 @@ fn change(
     ensures row { OnErr result (row.new ≡ row.old) }
     ensures nodes { OnErr result (waiters.new.nodes ≡ waiters.old.nodes) }
 {
-    room.make(waiters.len() as usize)?;
-    let Some(reply) = row.try_change(who.pid, call) else {
-        return park(alloc, waiters, who, call);
-    };
-    if !may_wake(row, waiters) {
-        return Ok(alone(alloc, Some(reply)));
+    if waiters.len() == 0 {
+        return change_alone(alloc, row, waiters, who, call);
     }
-    Ok(wake(alloc, row, waiters, room, reply))
+    let mut room = Room::of(alloc, kept.take(), waiters.len() as usize)?;
+    let came = change_with(alloc, row, waiters, &mut room, who, call);
+    *kept = Some(room);
+    came
 }
 
 /// Carries out a call on a set.
 fn carry_out(
     row: &mut Row,
     waiters: &mut Links<Waiting>,
-    room: &mut Room,
+    room: &mut Option<Box<Room>>,
     who: &Asker,
     call: &Call,
 ) -> Result<Came, Memory>

@@ -1,5 +1,5 @@
 //! Where a change of a set writes whom it wakes, without asking for memory.
-ghost use Rattle.std.specs.Prelude.{◌≡◌, ◌≤◌, [], OnOk, vec_capacity};
+ghost use Rattle.std.specs.Prelude.{◌≡◌, ◌≤◌, [], IfOk, OnOk, vec_capacity};
 
 use pico_base::{Memory, Pid};
 use std::alloc::Global;
@@ -15,7 +15,7 @@ pub(crate) struct Room {
 
 impl Room {
     /// No room. It takes no memory.
-    pub(crate) fn new(alloc: Global) -> Room {
+    fn new(alloc: Global) -> Room {
         Room {
             wakes: Vec::new(alloc),
             takers: Vec::new(alloc),
@@ -23,7 +23,7 @@ impl Room {
     }
 
     /// Both lists are empty, with room for so many.
-    pub(crate) fn make(&mut self, count: usize) -> Result<(), Memory>
+    fn make(&mut self, count: usize) -> Result<(), Memory>
         ensures wakes { OnOk result (self.new.wakes.items ≡ []) }
         ensures takers { OnOk result (self.new.takers.items ≡ []) }
         ensures wakes_room { OnOk result (count ≤ vec_capacity self.new.wakes) }
@@ -34,5 +34,25 @@ impl Room {
         self.wakes.reserve(count)?;
         self.takers.reserve(count)?;
         Ok(())
+    }
+
+    /// Room for so many, with nobody in it: the one that was kept, or one that is made. Memory: an allocation was
+    /// refused.
+    pub(crate) fn of(
+        alloc: Global,
+        kept: Option<Box<Room>>,
+        count: usize,
+    ) -> Result<Box<Room>, Memory>
+        ensures wakes { IfOk result (λ room. room.value.wakes.items ≡ []) }
+        ensures takers { IfOk result (λ room. room.value.takers.items ≡ []) }
+        ensures wakes_room { IfOk result (λ room. count ≤ vec_capacity room.value.wakes) }
+        ensures takers_room { IfOk result (λ room. count ≤ vec_capacity room.value.takers) }
+    {
+        let mut room = match kept {
+            Some(room) => room,
+            None => Box::new(alloc, Room::new(alloc))?,
+        };
+        room.make(count)?;
+        Ok(room)
     }
 }

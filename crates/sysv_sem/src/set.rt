@@ -24,7 +24,8 @@ use waiting_model::{Waiting, Wakes};
 pub struct SemSet {
     pub(crate) row: Row,
     pub(crate) waiters: Links<Waiting>,
-    pub(crate) room: Room,
+    // where a change writes whom it wakes, once somebody has waited
+    pub(crate) room: Option<Box<Room>>,
 }
 
 impl Model for SemSet {
@@ -54,7 +55,7 @@ impl SemSet {
         Ok(SemSet {
             row,
             waiters: Links::new(alloc),
-            room: Room::new(alloc),
+            room: None,
         })
     }
 

@@ -14,7 +14,6 @@ ghost use Rattle.sysv_sem.specs.Waiters.{waiters_in};
 
 use crate::SemSet;
 use crate::pack::CODE;
-use crate::room::Room;
 use crate::row::{MAX_OPERATIONS, MAX_SEMAPHORES, Row};
 use crate::semaphore::Semaphore;
 use crate::settling::try_waiter;
@@ -259,7 +258,7 @@ impl SemSet {
                 Ok(SemSet {
                     row,
                     waiters,
-                    room: Room::new(alloc),
+                    room: None,
                 })
             }
             Err(fault) => Err(fault),

@@ -46,3 +46,14 @@ returns c =
     (queue_of c.in-Some.qbytes c.in-Some.sender c.in-Some.receiver ms) c.in_ok-waiters.waiters.items state
     c.in_ok-waiters.ensures.read)
     c.settled.ensures
+
+pub overflow_cast-store : goal.overflow_cast-store
+overflow_cast-store c =
+    let ms : List Message = messages_of c.read_messages.new.into.nodes in
+    let state = state-read c.args.bytes.now c.in-Some.rest.now c.in_ok-size.rest.now
+    (c.in-Some.qbytes, c.in-Some.sender, c.in-Some.receiver) ms c.in-Some.ensures c.in_ok-size.ensures.read in
+    let within = within-read c.args.bytes.now c.in_ok-size.rest.now
+    (queue_of c.in-Some.qbytes c.in-Some.sender c.in-Some.receiver ms) (λ i. omega (arith, c.type_inv.bytes i)) state in
+    let most = within.bytes in
+    let size = c.in_ok-size.ensures.size in
+    omega (arith, most, size)

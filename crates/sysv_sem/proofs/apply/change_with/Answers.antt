@@ -3,7 +3,7 @@ use Rattle.sysv_sem.specs.Asking.{asking}
 use Rattle.sysv_sem.specs.Waiters.{held, try_steps}
 use Rattle.sysv_sem.proofs.Carried.{replies}
 use Rattle.sysv_sem.proofs.Rounds.{settle_rests}
-use Rattle.sysv_sem.proofs.apply.change.Goals as goal
+use Rattle.sysv_sem.proofs.apply.change_with.Goals as goal
 
 pub returns-clause-carried : goal.returns-clause-carried
 returns-clause-carried c =
