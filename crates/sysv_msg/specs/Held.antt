@@ -1,4 +1,4 @@
--- A queue as a node holds it: with a list for each text, or packed as it came. And why nothing was received.
+-- A queue as a node holds it: with a list for each text, or packed as it came.
 use Rattle.kernel_model.specs.Queue.{Queue}
 use Rattle.waiting_model.specs.Waiters.{Awaited, unawaited}
 use Rattle.sysv_msg.specs.declared.held.Form.{Form}

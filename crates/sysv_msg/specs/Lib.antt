@@ -8,3 +8,4 @@ pub mod Reading
 pub mod Passing
 pub mod Packed
 pub mod Held
+pub mod Examples

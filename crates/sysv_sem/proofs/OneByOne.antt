@@ -12,6 +12,7 @@ use Rattle.kernel_model.specs.SemaphoreSet.{Semaphore, SemaphoreSet, set_of, Mov
 use Rattle.sysv_sem.specs.OneByOne.{on_value, carried}
 use Rattle.sysv_sem.specs.Trial.{answer_of}
 
+-- a semaphore with this value, which the process set last
 abbrev pub made : ℕ → ℕ → Semaphore
 made pid value = record { value = value; last = pid }
 
@@ -120,6 +121,7 @@ marked_first row pid value step steps (Done values) inside len =
 marked_first row pid value step steps (StopsAt index) inside len = refl
 marked_first row pid value step steps OutOfRange inside len = refl
 
+-- a row of semaphores is a set
 abbrev pub as_set : Result (List Semaphore) Errno → Result SemaphoreSet Errno
 as_set (Ok row) = Ok (set_of row)
 as_set (Err e) = Err e

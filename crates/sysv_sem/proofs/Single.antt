@@ -60,7 +60,8 @@ module _ (row : List Semaphore) (pid : ℕ) (step : SemStep) (s : Semaphore) (in
       → TriesTo (try_op (set_of row) pid (step ∷ [])) (set_of row) (set_of row)
       (if b then None else Some (Fail Eagain))
   stops-by true waits moved =
-      (op-waits (set_of row) pid (step ∷ []) (omega arith) none-outside 0 step refl (tried ∙ ap trial moved) waits, refl)
+      let trial_is = tried ∙ ap trial moved in
+      (op-waits (set_of row) pid (step ∷ []) (omega arith) none-outside 0 step refl trial_is waits, refl)
   stops-by false waits moved =
       op-refused (set_of row) pid (step ∷ []) (omega arith) none-outside 0 step refl (tried ∙ ap trial moved) waits
 

@@ -8,3 +8,4 @@ pub mod Settling
 pub mod Trial
 pub mod Waiters
 pub mod Passing
+pub mod Examples
