@@ -9,7 +9,7 @@ use Rattle.sysv_sem.specs.declared.apply.Asker.{Asker}
 abbrev pub asking : Asker → Call → Waiting
 asking who call = record { caller = who.caller; ticket = who.ticket; pid = who.pid; call = call }
 
--- Where a change wakes somebody the processes noted are those. Where it wakes nobody nothing is said of them: nobody asks.
+-- Where a change wakes somebody the processes noted are those. Where it wakes nobody nothing is said of them.
 abbrev pub NotesTakers : List Wake → List ℕ → List ℕ → Type 0
 NotesTakers [] pids those = Unit {0}
 NotesTakers (w ∷ ws) pids those = pids ≡ those
