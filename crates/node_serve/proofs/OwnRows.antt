@@ -1,5 +1,6 @@
 -- A call of a process on its own row, by the definition of a served call.
-use Rattle.std.proofs.Common.{◌≡◌, ◌∙◌, ℕ, Bool, true, false, not, ◌||◌, List, [], ◌∷◌, ◌++◌, map, Option, Some, None, refl, sym, ap}
+use Rattle.std.proofs.Common.{◌≡◌, ◌∙◌, ℕ, Bool, true, false, not, ◌||◌, List, [], ◌∷◌, ◌++◌, map, Option, Some, None, Result, Ok, Err, IsSome, OnErr, refl, sym, ap, subst}
+use Rattle.std.specs.Prelude.{if◌then◌else◌}
 use Rattle.std.specs.List.{filter}
 use Rattle.std.specs.Option.{option_and_then, option_map, option_map_or}
 use Rattle.pico_base.specs.declared.call.Call.{Call}
@@ -29,9 +30,9 @@ use Rattle.node_serve.specs.declared.body.Body.{Body}
 use Rattle.node_serve.specs.declared.body.Body.TheVariants.{Living}
 use Rattle.node_serve.specs.declared.body.Row.{Row}
 use Rattle.node_serve.specs.Bodies.{bodies_of, body_of, row_of}
-use Rattle.node_serve.specs.Own.{AnswersOwnOr, HasOwn, HasOwnOr, OwnOr, is_on_own_row, unread}
+use Rattle.node_serve.specs.Own.{AnswersOwnOr, HasOwn, HasOwnOr, OwnOr, is_on_own_row, own_reply, reply_on_body, reply_on_held, unread}
 use Rattle.node_serve.specs.Prompt.{IsAnswered}
-use Rattle.node_serve.specs.Serving.{bury_found, may_be_served}
+use Rattle.node_serve.specs.Serving.{bury_found, child_in, may_be_served}
 use Rattle.node_serve.specs.Waits.{alone}
 use Rattle.node_serve.proofs.Defined.{buried, has-effect, looked-up}
 use Rattle.node_serve.proofs.KernelLemmas.{bodies-get, bodies-put, differ}
@@ -54,6 +55,52 @@ own-leaves row left pid call h = let o = ap (λ (d : Applied kernel.Row). d.own)
 
 same-row : (row left : Row) → row_of left ≡ row_of row → left ≡ row
 same-row row left h = ap (λ (k : kernel.Row). record { signals = k.signals; family = k.family }) h
+
+-- what a call comes to on the row of a living process that isn't its own child is the reply that it is due
+pub is-due : (old : Body) (row left : Row) (who : Waiting) (is : Bool) (o : Option Reply) → old ≡ Living row
+    → is ≡ is_child row.family who.pid → not is ≡ true
+    → on_own (row_of row) who.pid who.call ≡ alone (row_of left) o → o ≡ reply_on_body old who
+unfolding reply_on_body
+is-due old row left who true o lives asked apart does = absurd (cc)
+is-due old row left who false o lives asked apart does =
+    sym (ap (λ (b : Body). reply_on_body b who) lives
+    ∙ ap (λ (b : Bool). if b then None else (on_own (row_of row) who.pid who.call).own) (sym asked)
+    ∙ ap (λ (d : Applied kernel.Row). d.own) does)
+
+-- a process that is its own child is due no reply
+pub none-to-own-child : (old : Body) (row : Row) (who : Waiting) (is : Bool) → old ≡ Living row
+    → is ≡ is_child row.family who.pid → is ≡ true → None ≡ reply_on_body old who
+unfolding reply_on_body
+none-to-own-child old row who is lives asked found =
+    sym (ap (λ (b : Body). reply_on_body b who) lives
+    ∙ ap (λ (b : Bool). if b then None else (on_own (row_of row) who.pid who.call).own) (sym asked ∙ found))
+
+-- nor is one that doesn't live
+pub none-to-the-dead : (old : Body) (who : Waiting) → ((row : Row) → old ≡ Living row → ⊥)
+    → None ≡ reply_on_body old who
+unfolding reply_on_body
+none-to-the-dead (Living row) who dead = absurd (dead row refl)
+none-to-the-dead old who dead = refl
+
+-- nor is a call that isn't carried out on its caller's row
+pub none-elsewhere : (old : Named Body) (who : Waiting) → is_on_own_row who.pid who.call ≡ false
+    → None ≡ own_reply old who
+unfolding own_reply
+none-elsewhere old who elsewhere =
+    sym (ap (λ (b : Bool). if b then reply_on_held old who else None) elsewhere)
+
+-- a call on its caller's row has the reply that it is due on the body that is held
+pub due-on-own-row : (old : Named Body) (who : Waiting) (o : Option Reply) → is_on_own_row who.pid who.call ≡ true
+    → o ≡ reply_on_held old who → o ≡ own_reply old who
+unfolding own_reply
+due-on-own-row old who o on_row is =
+    is ∙ sym (ap (λ (b : Bool). if b then reply_on_held old who else None) on_row)
+
+-- where memory was refused, the call that found a child is due a reply with it
+pub child-is-due : {X E : Type 0} (r : Result X E) (old : Named Body) (who : Waiting) (o : Option Reply)
+    → o ≡ own_reply old who → IsSome (child_in o) → OnErr r (IsSome (child_in (own_reply old who)))
+child-is-due (Ok x) old who o is found = tt
+child-is-due (Err e) old who o is found = subst (λ (own : Option Reply). IsSome (child_in own)) is found
 
 -- what a call comes to on a living process's row
 pub own-or : (old : Body) (row left : Row) (who : Waiting) (is : Bool) (o : Option Reply) → old ≡ Living row

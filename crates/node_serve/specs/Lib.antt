@@ -3,7 +3,9 @@ pub mod Callers
 pub mod Ending
 pub mod Laws
 pub mod Own
+pub mod OwnExamples
 pub mod Prompt
+pub mod PromptExamples
 pub mod Read
 pub mod Serving
 pub mod Spelled
