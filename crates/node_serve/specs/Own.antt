@@ -44,8 +44,8 @@ reply_on_body body who = None
 abbrev pub reply_on_held : Named Body → Waiting → Option Reply
 reply_on_held old who = option_and_then (λ body. reply_on_body body who) (get_named old (Proc who.pid))
 
--- The reply that a call is due on its caller's own row. None, too, for a call that isn't carried out there, and where the
--- process isn't held.
+-- The reply that a call is due on its caller's own row. None, too, for a call that isn't carried out there, and where
+-- the process isn't held.
 unfoldable pub own_reply : Named Body → Waiting → Option Reply
 own_reply old who = if is_on_own_row who.pid who.call then reply_on_held old who else None
 

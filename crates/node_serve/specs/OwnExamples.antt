@@ -1,5 +1,5 @@
 -- Worked examples of calls of a process on its own row, computed by the checker.
-use Rattle.std.specs.Prelude.{◌≡◌, true, false, List, [], ◌∷◌, Option, Some, None, refl}
+use Rattle.std.specs.Prelude.{◌≡◌, true, false, [], ◌∷◌, Option, Some, None, refl}
 use Rattle.pico_base.specs.declared.call.Call.{Call}
 use Rattle.pico_base.specs.declared.call.Call.TheVariants as calls
 use Rattle.pico_base.specs.declared.numbers.Name.TheVariants.{Proc}
@@ -11,7 +11,7 @@ use Rattle.pico_base.specs.declared.signal.Act.TheVariants.{Catch}
 use Rattle.pico_base.specs.declared.signal.How.TheVariants.{Block, Unblock}
 use Rattle.pico_base.specs.declared.signal.Sig.TheVariants.{Kill, Usr1}
 use Rattle.pico_base.specs.declared.signal.SigArg.TheVariants.{Is, Bad}
-use Rattle.kernel_model.specs.Examples.{no_signal, only_usr1}
+use Rattle.kernel_model.specs.Examples.{only_usr1}
 use Rattle.kernel_model.specs.Row.{Family, ended_child, no_family}
 use Rattle.kernel_model.specs.Signals.{Signals, new_signals, raise, with_action, with_mask}
 use Rattle.waiting_model.specs.Waiters.{waiter}

@@ -1,5 +1,5 @@
 -- Worked examples of calls that have their reply at once on a name at which nobody waits, computed by the checker.
-use Rattle.std.specs.Prelude.{◌≡◌, ℕ, pos, negsuc, Bool, true, false, List, [], ◌∷◌, Option, Some, None, refl, codes}
+use Rattle.std.specs.Prelude.{◌≡◌, ℕ, pos, negsuc, Bool, true, false, List, [], ◌∷◌, Some, None, refl, codes}
 use Rattle.std.specs.List.{list_any}
 use Rattle.pico_base.specs.declared.call.Call.{Call}
 use Rattle.pico_base.specs.declared.call.Call.TheVariants as calls
@@ -15,12 +15,11 @@ use Rattle.kernel_model.specs.Waiting.{may_wait}
 use Rattle.waiting_model.specs.Queue.{try_queue}
 use Rattle.waiting_model.specs.SemaphoreSet.{try_set}
 use Rattle.waiting_model.specs.Waiters.{unawaited, waiter}
-use Rattle.node_model.specs.Kinds.{Named, none_named, put_named}
+use Rattle.node_model.specs.Kinds.{none_named, put_named}
 use Rattle.node_model.specs.Serving as definition
 use Rattle.node_model.specs.Serving.{name_for}
 use Rattle.node_serve.specs.declared.body.Body.{Body}
 use Rattle.node_serve.specs.declared.body.Body.TheVariants as bodies
-use Rattle.node_serve.specs.declared.prompt.Replied.{Replied}
 use Rattle.node_serve.specs.Bodies.{body_of}
 use Rattle.node_serve.specs.Prompt.{AnswersOr}
 

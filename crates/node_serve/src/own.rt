@@ -78,9 +78,9 @@ fn bury_found(deeds: &mut Deeds<Body>, own: &Option<Reply>) -> Result<(), Memory
     }
 }
 
-/// A call of a process on its own row has its reply exactly where that row is held, the process isn't its own child, and
-/// the call needn't wait. A child that it found is gone. None: it is another call, or one of these isn't so; nothing has
-/// changed. Memory is refused only to a call that finds a child; then nothing is said of what is left.
+/// A call of a process on its own row has its reply exactly where that row is held, the process isn't its own child,
+/// and the call needn't wait. A child that it found is gone. None: it is another call, or one of these isn't so;
+/// nothing has changed. Memory is refused only to a call that finds a child; then nothing is said of what is left.
 #[inline(always)]
 pub fn reply_on_own(
     deeds: &mut Deeds<Body>,

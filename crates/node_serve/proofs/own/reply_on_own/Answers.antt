@@ -7,7 +7,8 @@ pub returns-clause-left : goal.returns-clause-left
 returns-clause-left c =
     answers-own-or c.args.deeds.now.bodies c.on_own_deed-own.new.deeds.bodies c.bury_found.new.deeds.bodies
     (waiting_with c.args.who.now c.args.call.now) c.on_own_deed-own.result
-    (sym c.is_on_own_row.ensures ∙ c.if-not-is_on_own_row.false) c.on_own_deed-own.ensures.left c.in_ok-bury_found.ensures.buried
+    (sym c.is_on_own_row.ensures ∙ c.if-not-is_on_own_row.false) c.on_own_deed-own.ensures.left
+    c.in_ok-bury_found.ensures.buried
 
 pub returns-then-not-is_on_own_row-clause-due : goal.returns-then-not-is_on_own_row-clause-due
 returns-then-not-is_on_own_row-clause-due c =
