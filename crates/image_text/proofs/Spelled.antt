@@ -19,7 +19,7 @@ use Rattle.image_text.specs.Image.{max_stamp, max_node, act_text, event_line, co
 use Rattle.image_text.specs.Grammar.{IsNodeOf, HasNodes, MayStand}
 use Rattle.image_text.specs.Lines.{is_node, may_stand, whole_number, if_node, node_at, take_in, act_in, standing, event_in, max_count, or_long, count_of, count_in}
 use Rattle.image_text.specs.Order.{plain}
-use Rattle.image_text.proofs.Decimals.{number-was}
+use Rattle.trace_text.proofs.Decimals.{number-was}
 
 -- ---- the parts of a line
 

@@ -37,14 +37,18 @@ pub reads_the_calls : said (
     ∷ Calls (line None 1 (Some q) (calls.MsgSnd 0 (pos 31) (codes "aa") false))
     ∷ Calls (line None 3 (Some q) (calls.MsgRcv 0 (pos 0) 16 false false))
     ∷ Calls (line None 1 None (calls.MsgStat 7)) ∷ []
-unfolding mq_words_said mq_line_said mq_call_said mq_named_said mqopen_of mqsend_of mqreceive_of mqgetattr_of name_number set_at tries_at other_said verb_said is_comment identifier optional two_optional getpid_of digits number positive variable cut counted repetition letter text words_in verb_of strip
+unfolding mq_words_said mq_line_said mq_call_said mq_named_said mqopen_of mqsend_of mqreceive_of mqgetattr_of
+    name_number set_at tries_at other_said verb_said is_comment identifier optional two_optional getpid_of digits number
+    positive variable cut counted repetition letter text words_in verb_of strip
 reads_the_calls = refl
 
 -- a priority and a size that the call refuses are read: that is the reply's affair
 pub reads_what_a_call_refuses : said (codes "mqsend 1 32 rep:1:a" ∷ codes "mqreceive 1 15" ∷ [])
     ≡ Calls (line None 1 None (calls.MsgSnd 1 (pos 32) (codes "a") false))
     ∷ Calls (line None 1 None (calls.MsgRcv 1 (pos 0) 15 false false)) ∷ []
-unfolding mq_words_said mq_line_said mq_call_said mq_named_said mqopen_of mqsend_of mqreceive_of mqgetattr_of name_number set_at tries_at other_said verb_said is_comment identifier optional two_optional getpid_of digits number positive variable cut counted repetition letter text words_in verb_of strip
+unfolding mq_words_said mq_line_said mq_call_said mq_named_said mqopen_of mqsend_of mqreceive_of mqgetattr_of
+    name_number set_at tries_at other_said verb_said is_comment identifier optional two_optional getpid_of digits number
+    positive variable cut counted repetition letter text words_in verb_of strip
 reads_what_a_call_refuses = refl
 
 -- the name of a queue is `/N` from 1 to 1,000,000, and no word may lack or follow
@@ -52,13 +56,17 @@ pub refuses_other_forms : said (
     codes "mqopen 5" ∷ codes "mqopen /0" ∷ codes "mqopen /1000001" ∷ codes "mqopen /5 excl create"
     ∷ codes "mqsend 1 65536 rep:1:a" ∷ codes "mqreceive 1" ∷ codes "mqgetattr 1 2" ∷ [])
     ≡ Bad ∷ Bad ∷ Bad ∷ Bad ∷ Bad ∷ Bad ∷ Bad ∷ []
-unfolding mq_words_said mq_line_said mq_call_said mq_named_said mqopen_of mqsend_of mqreceive_of mqgetattr_of name_number set_at tries_at other_said verb_said is_comment identifier optional two_optional getpid_of digits number positive variable cut counted repetition letter text words_in verb_of strip
+unfolding mq_words_said mq_line_said mq_call_said mq_named_said mqopen_of mqsend_of mqreceive_of mqgetattr_of
+    name_number set_at tries_at other_said verb_said is_comment identifier optional two_optional getpid_of digits number
+    positive variable cut counted repetition letter text words_in verb_of strip
 refuses_other_forms = refl
 
 -- these scripts don't have the calls on System V's queues, and have all others
 pub has_no_system_v_queues : said (codes "msgget private" ∷ codes "msgctl 1 stat" ∷ codes "getpid" ∷ [])
     ≡ Unknown ∷ Unknown ∷ Calls (line None 1 None calls.GetPid) ∷ []
-unfolding mq_words_said mq_line_said mq_call_said mq_named_said mqopen_of mqsend_of mqreceive_of mqgetattr_of name_number set_at tries_at other_said verb_said is_comment identifier optional two_optional getpid_of digits number positive variable cut counted repetition letter text words_in verb_of strip
+unfolding mq_words_said mq_line_said mq_call_said mq_named_said mqopen_of mqsend_of mqreceive_of mqgetattr_of
+    name_number set_at tries_at other_said verb_said is_comment identifier optional two_optional getpid_of digits number
+    positive variable cut counted repetition letter text words_in verb_of strip
 has_no_system_v_queues = refl
 
 -- the given lines: in place of each call of System V the given one, and what stands in front of it as it is

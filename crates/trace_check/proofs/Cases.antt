@@ -129,5 +129,6 @@ module _ (script : Script) (line left : ℕ) (done : List Entry) (so_far : SoFar
             → GivesFault fault (judge_from script n line left done so_far bytes)
         of None is g =
             subst (GivesFault fault) (sym (judge-none n f t is))
-            (fault-goes fault (Err (NotATrace line)) (λ (next : SoFar). judge_from script n line left done next bytes) g)
+            (fault-goes fault (Err (NotATrace line)) (λ (next : SoFar). judge_from script n line left done next bytes)
+            g)
         of (Some e) is g = judge-fault n e some f t is fault g

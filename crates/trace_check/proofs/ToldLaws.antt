@@ -82,6 +82,7 @@ plain-of : (call : Call) → is_numberless call ≡ true → withdrawn_from call
 plain-of (calls.Withdraw name) h = absurd (cc)
 plain-of call h = refl
 
+-- the kernel carries out a call that makes nothing in the same way, whatever number is chosen
 pub numberless : (k : Kernel) (pid : ℕ) (call : Call) (n m : ℕ) → is_numberless call ≡ true
     → transition k pid call n ≡ transition k pid call m
 numberless k pid call n m h = of (living_at k pid)
@@ -129,16 +130,17 @@ module _ (script : Script) (sound : IsSoundScript script) (kernel : Kernel) (cur
 
     -- or to another outcome
     pub other-made : (other : Outcome) → is_same_outcome outcome other ≡ false → (line : ℕ)
-        → judge_made script line (so_far_of script kernel cursors) pid call other ≡ Err (Illegal line (Some outcome) other)
+        → judge_made script line (so_far_of script kernel cursors) pid call other
+        ≡ Err (Illegal line (Some outcome) other)
     other-made other same line =
         illegal script line kernel cursors pid call other (last_doom (living_at kernel pid)) refl may-come
         (Illegal line (Some outcome) other) (rw (step (number_in other.own), same) refl)
 
--- The line that is expected is read as its entry.
-
+-- the line that is expected is read as its entry
 pub reads-expected : (script : Script) (pid : ℕ) (call : Call) (rest : List ℕ) (outcome : Outcome)
     → IsSoundScript script → pid ≤ 4294967295 → is_call script call ≡ true → (e : EndsWith outcome rest)
-    → entry_in script (line_with script pid call rest) ≡ Some (record { pid = pid; call = call; outcome = outcome; by = e.node })
+    → entry_in script (line_with script pid call rest)
+    ≡ Some (record { pid = pid; call = call; outcome = outcome; by = e.node })
 reads-expected script pid call rest outcome sound small grammar e =
     let entry : Entry = record { pid = pid; call = call; outcome = outcome; by = e.node } in
     let node : is_between 1 32 e.node ≡ true =
@@ -171,7 +173,8 @@ replied-made : (m : ℕ × Call) (bytes : List ℕ) (x : Entry) → replied_at m
 replied-made m bytes x h =
     let f = bind_some (strip (codes " = ") bytes)
     (λ front. own_at front >>= λ own. by_at own.1 >>= λ node. ended_entry m own.0 node.0 (wakes_at node.1)) x h in
-    let o = bind_some (own_at f.0) (λ own. by_at own.1 >>= λ node. ended_entry m own.0 node.0 (wakes_at node.1)) x f.2 in
+    let o = bind_some (own_at f.0) (λ own. by_at own.1 >>= λ node. ended_entry m own.0 node.0 (wakes_at node.1)) x
+    f.2 in
     let n = bind_some (by_at o.0.1) (λ node. ended_entry m o.0.0 node.0 (wakes_at node.1)) x o.2 in
     let entry : Entry = entry_of m o.0.0 n.0.0 (wakes_at n.0.1).0 in
     let w = chosen (has_ended (wakes_at n.0.1).1) (Some entry) x n.2 in
@@ -279,8 +282,8 @@ module _ (script : Script) (text : List ℕ) (sound : IsSoundScript script) (e :
         e.outcome
     as-made line =
         let g = begun-by before.cursors.entries h.begun in
-        ap (λ (p : ℕ). judge_made script line (so_far_of script before.kernel before.cursors.entries) p e.call e.outcome)
-        g.pid
+        ap (λ (p : ℕ). judge_made script line (so_far_of script before.kernel before.cursors.entries) p e.call
+        e.outcome) g.pid
         ∙ ap (λ (c : Call). judge_made script line (so_far_of script before.kernel before.cursors.entries) h.begun.pid c
         e.outcome) g.call
 

@@ -7,6 +7,7 @@ use Rattle.std.proofs.lemmas.Option.{none-some, some_pair_parts}
 use Rattle.text_fields.specs.Fields.{is_digit, digit_at, digits_front, number_at}
 
 module _ (limit : ℕ) (wide : limit < 2 ^ 64) where
+  -- digits that are read behind a value: with its digits in front they are those of what is read
   digits-were : (v : ℕ) (bytes : List ℕ) (n : ℕ) (rest : List ℕ) → 0 < v → v ≤ limit
       → digits_front limit v bytes ≡ Some (n, rest) → (decimal v ++ bytes ≡ decimal n ++ rest) × (n ≤ limit)
   unfolding digits_front
@@ -43,6 +44,7 @@ module _ (limit : ℕ) (wide : limit < 2 ^ 64) where
           let p = some_pair_parts v n (b ∷ bytes) rest h in
           (rw (p.0, p.1) refl, omega (arith, p.0, le))
 
+  -- a number that is read in front: its decimal digits stand there, and it is within the limit
   pub number-was : (bytes : List ℕ) (n : ℕ) (rest : List ℕ) → 9 ≤ limit → number_at limit bytes ≡ Some (n, rest)
       → (bytes ≡ decimal n ++ rest) × (n ≤ limit)
   unfolding number_at digit_at

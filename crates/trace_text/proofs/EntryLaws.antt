@@ -47,6 +47,7 @@ by-again node rest low high ends =
       le-leb 1 node low,
     ) refl
 
+-- the process and its call in front of a line are read back
 pub made-again : (script : Script) (pid : ℕ) (call : Call) (more : List ℕ) → IsSoundScript script → pid ≤ 4294967295
     → is_call script call ≡ true
     → made_at script (decimal pid ++ 32 ∷ (call_text script call ++ 32 ∷ 61 ∷ more))

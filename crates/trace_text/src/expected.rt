@@ -96,8 +96,8 @@ fn is_printed_end(outcome: &Outcome, rest: &[u8], scratch: &mut Vec<u8>) -> Resu
     Ok(is_line(scratch, behind))
 }
 
-/// Whether the rest of a line, behind ` = `, is this outcome by one of the nodes. Else it may be another text of the same,
-/// where no line could have that. `scratch` is room to print it.
+/// Whether the rest of a line, behind ` = `, is this outcome by one of the nodes. Else it may be another text of the
+/// same, where no line could have that. `scratch` is room to print it.
 pub fn is_end(outcome: &Outcome, rest: &[u8], scratch: &mut Vec<u8>) -> Result<bool, Memory>
     ensures { IfOk result (λ is. IsTrue is → EndsWith outcome.now rest.now) }
 {

@@ -171,8 +171,8 @@ impl Tally {
         Ok(())
     }
 
-    /// Counts the history's next entry, of which the call and its outcome are enough. Memory: a count is past 64 bits, and
-    /// nothing is said of the tally then.
+    /// Counts the history's next entry, of which the call and its outcome are enough. Memory: a count is past 64 bits,
+    /// and nothing is said of the tally then.
     pub fn add_call(&mut self, call: &Call, outcome: &Outcome) -> Result<(), Memory>
         ensures { (before : List Entry) (e : Entry) → e.call ≡ call.now → e.outcome ≡ outcome.now
             → self.old ≡ tally_of before → OnOk result (self.new ≡ tally_of (before ++ e ∷ [])) }
