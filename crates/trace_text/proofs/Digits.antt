@@ -1,8 +1,42 @@
 -- Numbers of one to four digits, and what stands beside them.
-use Rattle.std.proofs.Common.{◌≡◌, ℕ, ℤ, pos, negsuc, ◌+◌, ◌<◌, ◌≤◌, ◌<ℤ◌, ◌/◌, ◌%◌, [], ◌∷◌, ◌++◌, codes, arith, ap, refl, unsigned_abs, ◌∙◌}
+use Rattle.std.proofs.Common.{◌≡◌, ℕ, zero, suc, ℤ, pos, negsuc, ◌+◌, ◌-◌, ◌*◌, ◌<◌, ◌≤◌, ◌<ℤ◌, ◌/◌, ◌%◌, Bool, true, ◌&&◌, eqb, [], ◌∷◌, ◌++◌, codes, arith, ap, refl, unsigned_abs, ◌∙◌, get_or, inl, inr, eq-zero-or-pos}
 use Rattle.std.specs.Fmt.{decimal, signed_decimal}
+use Rattle.std.proofs.lemmas.Bool.{and_parts, eqb-true}
 use Rattle.std.proofs.lemmas.Fmt.{decimal_digit, decimal_step}
 use Rattle.std.proofs.lemmas.Int.{ints}
+use Rattle.itoa.proofs.Decimal.{pair, decimal_pair}
+use Rattle.trace_text.specs.declared.text.TheConstants.{PAIRS}
+
+-- whether the first so many pairs of the table are the digits of their numbers
+abbrev are_pairs : ℕ → Bool
+are_pairs zero = true
+are_pairs (suc n) =
+    (eqb (get_or PAIRS (n * 2) 0) (48 + n / 10) && eqb (get_or PAIRS (n * 2 + 1) 0) (48 + n % 10)) && are_pairs n
+
+-- then each of them is
+pair-below : (n p : ℕ) → are_pairs n ≡ true → p < n
+    → (get_or PAIRS (p * 2) 0 ≡ 48 + p / 10) × (get_or PAIRS (p * 2 + 1) 0 ≡ 48 + p % 10)
+pair-below zero p all less = absurd (omega (arith, less))
+pair-below (suc n) p all less =
+    let parts =
+    and_parts (eqb (get_or PAIRS (n * 2) 0) (48 + n / 10) && eqb (get_or PAIRS (n * 2 + 1) 0) (48 + n % 10))
+    (are_pairs n) all in
+    let here =
+    and_parts (eqb (get_or PAIRS (n * 2) 0) (48 + n / 10)) (eqb (get_or PAIRS (n * 2 + 1) 0) (48 + n % 10))
+    parts.0 in
+    elim (eq-zero-or-pos (n - p)) [
+      | inl none ↦ let same : p ≡ n = omega (arith, less, none) in
+          rw same (
+            eqb-true (get_or PAIRS (n * 2) 0) (48 + n / 10) here.0,
+            eqb-true (get_or PAIRS (n * 2 + 1) 0) (48 + n % 10) here.1,
+          )
+      | inr some ↦ pair-below n p parts.1 (omega (arith, some))
+    ]
+
+-- the table has both digits of each number below a hundred
+pub pair_at : (n : ℕ) → n < 100
+    → (get_or PAIRS (n * 2) 0 ≡ 48 + n / 10) × (get_or PAIRS (n * 2 + 1) 0 ≡ 48 + n % 10)
+pair_at n small = pair-below 100 n refl small
 
 -- its decimal digits are those of its tens and of what is left
 pub two_digits : (n : ℕ) → 10 ≤ n → n < 100 → decimal n ≡ (48 + n / 10) ∷ (48 + n % 10) ∷ []
@@ -12,19 +46,17 @@ two_digits n least most =
 
 -- one digit more
 pub three_digits : (n : ℕ) → 100 ≤ n → n < 1000
-    → decimal n ≡ (48 + n / 10 / 10) ∷ (48 + n / 10 % 10) ∷ (48 + n % 10) ∷ []
+    → decimal n ≡ (48 + n / 100) ∷ (48 + n % 100 / 10) ∷ (48 + n % 100 % 10) ∷ []
 three_digits n least most =
-    decimal_step n (omega (arith, least)) (omega (arith, most))
-    ∙ ap (λ tens. tens ++ (48 + n % 10) ∷ [])
-    (two_digits (n / 10) (omega (arith, least)) (omega (arith, most)))
+    decimal_pair n least (omega (arith, most))
+    ∙ ap (λ front. front ++ pair (n % 100)) (decimal_digit (n / 100) (omega (arith, most)))
 
 -- and one more
 pub four_digits : (n : ℕ) → 1000 ≤ n → n < 10000
-    → decimal n ≡ (48 + n / 10 / 10 / 10) ∷ (48 + n / 10 / 10 % 10) ∷ (48 + n / 10 % 10) ∷ (48 + n % 10) ∷ []
+    → decimal n ≡ (48 + n / 100 / 10) ∷ (48 + n / 100 % 10) ∷ (48 + n % 100 / 10) ∷ (48 + n % 100 % 10) ∷ []
 four_digits n least most =
-    decimal_step n (omega (arith, least)) (omega (arith, most))
-    ∙ ap (λ tens. tens ++ (48 + n % 10) ∷ [])
-    (three_digits (n / 10) (omega (arith, least)) (omega (arith, most)))
+    decimal_pair n (omega (arith, least)) (omega (arith, most))
+    ∙ ap (λ front. front ++ pair (n % 100)) (two_digits (n / 100) (omega (arith, least)) (omega (arith, most)))
 
 -- a number of one digit with a byte behind it
 pub digit_then : (n b : ℕ) → n < 10 → decimal n ++ b ∷ [] ≡ (48 + n) ∷ b ∷ []
@@ -58,7 +90,7 @@ two_digits_then n b least most = ap (λ digits. digits ++ b ∷ []) (two_digits 
 
 -- a number of three digits with a byte behind it
 pub three_digits_then : (n b : ℕ) → 100 ≤ n → n < 1000
-    → decimal n ++ b ∷ [] ≡ (48 + n / 10 / 10) ∷ (48 + n / 10 % 10) ∷ (48 + n % 10) ∷ b ∷ []
+    → decimal n ++ b ∷ [] ≡ (48 + n / 100) ∷ (48 + n % 100 / 10) ∷ (48 + n % 100 % 10) ∷ b ∷ []
 three_digits_then n b least most = ap (λ digits. digits ++ b ∷ []) (three_digits n least most)
 
 -- the end of a line that woke nobody, by a node of one digit

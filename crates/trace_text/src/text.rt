@@ -52,13 +52,31 @@ pub(crate) fn push_known(out: &mut Vec<u8>, bytes: &[u8]) -> Result<(), Memory>
     push_growing(out, bytes)
 }
 
+// The digits of the numbers below a hundred, two for each.
+static PAIRS: [u8; 200] =
+    *b"0001020304050607080910111213141516171819202122232425262728293031323334353637383940414243444546474849\
+       5051525354555657585960616263646566676869707172737475767778798081828384858687888990919293949596979899";
+
+// Both digits of a number below a hundred, in one step.
+#[inline(always)]
+#[tactic(auto, using(crate::proofs::Digits::pair_at))]
+fn pair(number: u8) -> (u8, u8)
+    requires { number < 100 }
+    ensures tens { result.0 ≡ 48 + number / 10 }
+    ensures units { result.1 ≡ 48 + number % 10 }
+{
+    let from = usize::from(number) * 2;
+    (PAIRS[from], PAIRS[from + 1])
+}
+
 // Adds a number of two digits.
 #[tactic(auto, using(crate::proofs::Digits::two_digits))]
 fn push_two_digits(out: &mut Vec<u8>, number: u8) -> Result<(), Memory>
     requires { (10 ≤ number) × (number < 100) }
     ensures { OnOk result (out.new.items ≡ out.old.items ++ decimal number) }
 {
-    push(out, &[b'0' + number / 10, b'0' + number % 10])
+    let (tens, units) = pair(number);
+    push(out, &[tens, units])
 }
 
 // Adds a number of three digits.
@@ -67,15 +85,8 @@ fn push_three_digits(out: &mut Vec<u8>, number: u16) -> Result<(), Memory>
     requires { (100 ≤ number) × (number < 1000) }
     ensures { OnOk result (out.new.items ≡ out.old.items ++ decimal number) }
 {
-    let tens = number / 10;
-    push(
-        out,
-        &[
-            b'0' + (tens / 10) as u8,
-            b'0' + (tens % 10) as u8,
-            b'0' + (number % 10) as u8,
-        ],
-    )
+    let (tens, units) = pair((number % 100) as u8);
+    push(out, &[b'0' + (number / 100) as u8, tens, units])
 }
 
 // Adds a number of four digits.
@@ -84,20 +95,13 @@ fn push_four_digits(out: &mut Vec<u8>, number: u16) -> Result<(), Memory>
     requires { (1000 ≤ number) × (number < 10000) }
     ensures { OnOk result (out.new.items ≡ out.old.items ++ decimal number) }
 {
-    let tens = number / 10;
-    let hundreds = tens / 10;
-    push(
-        out,
-        &[
-            b'0' + (hundreds / 10) as u8,
-            b'0' + (hundreds % 10) as u8,
-            b'0' + (tens % 10) as u8,
-            b'0' + (number % 10) as u8,
-        ],
-    )
+    let (thousands, hundreds) = pair((number / 100) as u8);
+    let (tens, units) = pair((number % 100) as u8);
+    push(out, &[thousands, hundreds, tens, units])
 }
 
-// Adds any number. It stands apart, so that numbers of few digits need no buffer.
+// Adds any number. It stands apart, so that numbers of few digits need no buffer. To add those of more than four digits
+// by parts takes more instructions than the buffer does.
 #[inline(never)]
 fn push_long_number(out: &mut Vec<u8>, number: u64) -> Result<(), Memory>
     ensures { OnOk result (out.new.items ≡ out.old.items ++ decimal number) }
@@ -157,7 +161,8 @@ fn push_two_digits_then(out: &mut Vec<u8>, number: u8, byte: u8) -> Result<(), M
     requires { (10 ≤ number) × (number < 100) }
     ensures { OnOk result (out.new.items ≡ out.old.items ++ (decimal number ++ byte ∷ [])) }
 {
-    push(out, &[b'0' + number / 10, b'0' + number % 10, byte])
+    let (tens, units) = pair(number);
+    push(out, &[tens, units, byte])
 }
 
 // Adds a number of one digit, and a byte behind it.
@@ -175,16 +180,8 @@ fn push_three_digits_then(out: &mut Vec<u8>, number: u16, byte: u8) -> Result<()
     requires { (100 ≤ number) × (number < 1000) }
     ensures { OnOk result (out.new.items ≡ out.old.items ++ (decimal number ++ byte ∷ [])) }
 {
-    let tens = number / 10;
-    push(
-        out,
-        &[
-            b'0' + (tens / 10) as u8,
-            b'0' + (tens % 10) as u8,
-            b'0' + (number % 10) as u8,
-            byte,
-        ],
-    )
+    let (tens, units) = pair((number % 100) as u8);
+    push(out, &[b'0' + (number / 100) as u8, tens, units, byte])
 }
 
 // Adds any number, and a byte behind it.
@@ -406,7 +403,7 @@ fn push_short_repeat(out: &mut Vec<u8>, count: u8, byte: u8) -> Result<(), Memor
     ensures { OnOk result
         (out.new.items ≡ out.old.items ++ (codes "rep:" ++ decimal count ++ 58 ∷ byte ∷ [])) }
 {
-    let (tens, units) = (b'0' + count / 10, b'0' + count % 10);
+    let (tens, units) = pair(count);
     push(out, &[b'r', b'e', b'p', b':', tens, units, b':', byte])
 }
 
