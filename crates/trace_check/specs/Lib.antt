@@ -4,3 +4,4 @@ pub mod Judging
 pub mod Refusal
 pub mod Standings
 pub mod Told
+pub mod ToldExamples
