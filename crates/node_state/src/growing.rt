@@ -34,11 +34,11 @@ pub struct Growing {
 fn woken_by(alloc: Global, wakes: &[Wake]) -> Result<Woken, Memory>
     ensures { IfOk result (λ woken. woken ≡ map woken_pair wakes.now) }
 {
-    let mut woken = Woken::new(alloc);
+    let mut woken = Vec::with_capacity(alloc, wakes.len())?;
     for wake in wakes {
         woken.push((wake.pid, wake.reply.try_copy(alloc)?))?;
     }
-    Ok(woken)
+    Ok(Woken::from_vec(woken))
 }
 
 /// The same reply, if there is one.
