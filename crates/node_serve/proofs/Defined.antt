@@ -91,7 +91,8 @@ filter_same p q (w ∷ ws) same = rw (same.0, filter_same p q ws same.1) refl
 -- ---- by the definition
 
 -- the child that a call found is gone, as the definition has it
-pub buried : (own : Option Reply) (m : Named Body) → bodies_of (bury_found own m) ≡ put_all (bodies_of m) (found_gone own)
+pub buried : (own : Option Reply) (m : Named Body)
+    → bodies_of (bury_found own m) ≡ put_all (bodies_of m) (found_gone own)
 buried (Some (replies.Child child ending)) m = bodies-put m (Proc child) Gone
 buried (Some r) m = refl
 buried None m = refl

@@ -165,6 +165,7 @@ says-by-try q who None parked = tt
 says-by-try q who (Some a) parked =
     says-rounds q.waiters parked (length q.waiters) (awaited a.state q.waiters) (all-wait q.waiters parked)
 
+-- of whom a call on a queue wakes, those have a message as reply who waited in a receive
 pub messages-say : (q new : Awaited Queue) (who : Waiting) (applied : Applied) → AreParked q
     → carry_out_on_queue q who ≡ carried_to new applied
     → AllByRecursion (λ w. gives_message w.reply ≡ woken_reads q.waiters w) applied.wakes
