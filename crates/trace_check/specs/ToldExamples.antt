@@ -79,6 +79,7 @@ pub another_outcome : (old new : Judge) → old.kernel ≡ made_kernel → old.c
     → new.kernel ≡ sent_kernel → new.cursors.entries ≡ old.cursors.entries → new.tally ≡ old.tally
     → new.other ≡ Some (reply_alone (Num 0))
     → HasCarried hello (codes "1 msgsnd 1 1 \"hi\" nowait = 7 by 1") old new
+unfolding send_begins
 another_outcome old new before there after cursors tally other =
     record {
       begun = record {
