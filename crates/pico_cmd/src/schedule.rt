@@ -35,6 +35,7 @@ pub fn node_of(event: &Event) -> Node
 }
 
 // The enabled event that a drawn number stands for.
+#[inline(always)]
 fn event_drawn(world: &StreamingWorld, number: u32) -> Option<Event>
     requires { IsSome world.now }
     ensures { IfSome world.now (λ w.

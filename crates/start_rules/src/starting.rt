@@ -5,7 +5,7 @@ ghost use Rattle.pico_base.specs.Home.{home_of};
 ghost use Rattle.pico_base.specs.declared.script.Script.{Script as Scripted};
 ghost use Rattle.kernel_model.specs.Row.{Row as AtRow};
 ghost use Rattle.kernel_model.specs.Script.{IsSoundScript};
-ghost use Rattle.node_model.specs.Caller.{due_call};
+ghost use Rattle.node_state.specs.declared.fault.TurnFault.TheVariants.{NotAllowed};
 ghost use Rattle.world_model.specs.Node.{own_row};
 ghost use Rattle.world_model.specs.Starting.{run, start, start_by};
 ghost use Rattle.node_state.specs.Started.{can_start, started};
@@ -28,19 +28,13 @@ fn can_start(node: &State) -> bool
     node.can_run() && node.caller.ticket() < u32::MAX
 }
 
-/// The call due, if there is one. Memory, too, where a doomed process has no line left.
-fn due_call(node: &State, script: &Script, doom: Option<Sig>) -> Result<Option<Call>, Memory>
-    requires sound { IsSoundScript script.now }
-    ensures { IfOk result
-        (λ call. call ≡ due_call script.now (node_of node.now).number (node_of node.now).caller doom) }
+/// Why no call is due: there is no line left. No run leads to a doomed process that has none.
+fn no_line(doom: Option<Sig>) -> TurnFault
+    ensures { result ≡ NotAllowed → doom ≡ None }
 {
-    if node.caller.has_line(script) {
-        let call = node.caller.due(script, doom)?;
-        Ok(Some(call))
-    } else if doom.is_none() {
-        Ok(None)
-    } else {
-        Err(unreached())
+    match doom {
+        None => TurnFault::NotAllowed,
+        Some(_) => TurnFault::from(unreached()),
     }
 }
 
@@ -137,7 +131,8 @@ fn start_lent(step: &mut Growing, script: &Script, call: &Call) -> Result<(), Tu
     Ok(act_lent(step, script, call)?)
 }
 
-/// The call due is made, and started.
+/// The call due is made, and started. It isn't put into an `Option` on its way: each form that it takes there is one
+/// more move of it, which waits for the last. Memory, too, where a doomed process has no line left.
 #[inline(always)]
 fn start_made(step: &mut Growing, script: &Script, doom: Option<Sig>) -> Result<(), TurnFault>
     requires fresh { IsFresh step.old }
@@ -146,9 +141,10 @@ fn start_made(step: &mut Growing, script: &Script, doom: Option<Sig>) -> Result<
     ensures { (row : AtRow) → own_row (node_of step.old.node) ≡ Some row
         → Turns (start_doomed script.now (node_of step.old.node) row doom) step.old step.new result }
 {
-    let Some(call) = due_call(&step.node, script, doom)? else {
-        return Err(TurnFault::NotAllowed);
-    };
+    if !step.node.caller.has_line(script) {
+        return Err(no_line(doom));
+    }
+    let call = step.node.caller.due(script, doom)?;
     start(step, script, call)
 }
 

@@ -86,6 +86,7 @@ impl StreamingWorld {
 
     /// The event at this place of those that may come next, from 0: node after node, each node's takes by rising sender
     /// and then its run. None where there are no more than `index`.
+    #[inline(always)]
     pub fn nth(&self, index: u32) -> Option<Event>
         requires whole { IsSome self.now }
         ensures { IfSome self.now (λ w. result ≡ slice_get (enabled_events w) index) }
