@@ -11,26 +11,26 @@ use Rattle.std.proofs.lemmas.List.Quantifiers.{position-Some}
 use Rattle.std.proofs.lemmas.List.Sums.{prefix_len_is}
 use Rattle.std.specs.Prelude.{position, Some}
 use Rattle.script_reader.proofs.Cuts.{position_of_first}
-use Rattle.script_reader.specs.Words.{is_blank, Marks, PartWords}
+use Rattle.script_reader.specs.Words.{is_blank, MarksOf, PartWords}
 use lib.Count.{count_trailing_zeros}
 use lib.Lanes.{chunk, mask_l, top}
 
 -- a mask whose bit k is that of the lane that was computed from byte k
-pub marks_of_lanes : (p : ℕ → Bool) (xs : List ℕ) (z : List ℕ) → 64 ≤ length xs → ((k : ℕ) → Fits w8 (get_or xs k 0))
-    → (f : ℕ → ℕ) → z ≡ map f (chunk 0 64 xs) → agree_below (λ x. top 7 (f x)) p 256 ≡ true
-    → Marks p xs (mask_l (map (top 7) z) % 2 ^ 64)
-marks_of_lanes p xs z room fits f lanes all k inside low =
-    let v = chunk 0 64 xs in
+pub marks_of_lanes : (count : ℕ) (p : ℕ → Bool) (xs : List ℕ) (z : List ℕ) → count ≤ 64 → 0 + count ≤ length xs
+    → ((k : ℕ) → Fits w8 (get_or xs k 0)) → (f : ℕ → ℕ) → z ≡ map f (chunk 0 count xs)
+    → agree_below (λ x. top 7 (f x)) p 256 ≡ true → MarksOf count p xs (mask_l (map (top 7) z) % 2 ^ 64)
+marks_of_lanes count p xs z few room fits f lanes all k inside low =
+    let v = chunk 0 count xs in
     let marks : ℕ → Bool = λ x. top 7 (f x) in
-    let long : length v ≡ 64 = length-chunk 0 64 xs room in
+    let long : length v ≡ count = length-chunk 0 count xs room in
     let here : 0 + k ≡ k = omega arith in
     let mask : mask_l (map (top 7) z) % 2 ^ 64 ≡ mask_l (map marks v) =
     ap (λ l. mask_l l % 2 ^ 64) (ap (map (top 7)) lanes ∙ map-map (top 7) f v)
-    ∙ mask_l-mod (map marks v) 64 (omega (arith, length-map v marks, long)) in
+    ∙ mask_l-mod (map marks v) 64 (omega (arith, length-map v marks, long, few)) in
     ap (λ m. bit_at m k) mask ∙ bit_mask_l (map marks v) k
     ∙ ap (λ b. cond b 1 0)
-    (get_or-map marks v k 0 false (omega (arith, long))
-    ∙ ap marks (get_or-chunk 0 64 xs k 0 low ∙ ap (λ j. get_or xs j 0) here)
+    (get_or-map marks v k 0 false (omega (arith, long, low))
+    ∙ ap marks (get_or-chunk 0 count xs k 0 low ∙ ap (λ j. get_or xs j 0) here)
     ∙ agree_below_at marks p 256 (get_or xs k 0) all (fits k).fits)
 
 bit_is : (b : Bool) (n : ℕ) → n ≡ cond b 1 0 → n ≡ 0 → b ≡ false
@@ -105,9 +105,10 @@ unset_not true f t = absurd cc
 unset_not false f t = absurd cc
 
 -- the lowest set bit is the place of the first byte that passes
-pub position_marked : (p : ℕ → Bool) (xs : List ℕ) (mask at : ℕ) → 64 ≤ length xs → at < 64 → Marks p xs mask
-    → ((k : ℕ) → 0 ≤ k → k < at → bit_at mask k ≡ 0) → bit_at mask at ≡ 1 → position p xs ≡ Some at
-position_marked p xs mask at long near marks clear set =
+pub position_marked : (count : ℕ) (p : ℕ → Bool) (xs : List ℕ) (mask at : ℕ) → count ≤ length xs → at < count
+    → MarksOf count p xs mask → ((k : ℕ) → 0 ≤ k → k < at → bit_at mask k ≡ 0) → bit_at mask at ≡ 1
+    → position p xs ≡ Some at
+position_marked count p xs mask at long near marks clear set =
     sym (position_of_first p xs (Some at) (
       record {
         low = omega arith;
@@ -119,9 +120,10 @@ position_marked p xs mask at long near marks clear set =
     ))
 
 -- and where none is set, no byte passes
-pub none_marked : (p : ℕ → Bool) (xs : List ℕ) (mask at : ℕ) → 64 ≤ length xs → 64 ≤ at → Marks p xs mask
-    → ((k : ℕ) → 0 ≤ k → k < at → bit_at mask k ≡ 0) → (k : ℕ) → k < 64 → p (get_or xs k 0) ≡ false
-none_marked p xs mask at long far marks clear k low =
+pub none_marked : (count : ℕ) (p : ℕ → Bool) (xs : List ℕ) (mask at : ℕ) → count ≤ length xs → count ≤ at
+    → MarksOf count p xs mask → ((k : ℕ) → 0 ≤ k → k < at → bit_at mask k ≡ 0)
+    → (k : ℕ) → k < count → p (get_or xs k 0) ≡ false
+none_marked count p xs mask at long far marks clear k low =
     bit_is _ _ (marks k (omega (arith, low, long)) low) (clear k (omega arith) (omega (arith, low, far)))
 
 -- the first byte that passes, where none of the first 64 does
@@ -151,14 +153,15 @@ flipped true n e = omega (arith, e)
 flipped false n e = omega (arith, e)
 
 -- the masks of a text's first line
-pub parts_of_front : (xs : List ℕ) (n blanks ends solids : ℕ) → 64 ≤ length xs → n < 64 → blanks < 2 ^ 64
-    → Marks is_blank xs blanks → bit_at ends n ≡ 1 → ((k : ℕ) → k < n → bit_at ends k ≡ bit_at blanks k)
+pub parts_of_front : (count : ℕ) (xs : List ℕ) (n blanks ends solids : ℕ) → count ≤ 64 → count ≤ length xs
+    → n < count → blanks < 2 ^ 64 → MarksOf count is_blank xs blanks → bit_at ends n ≡ 1
+    → ((k : ℕ) → k < n → bit_at ends k ≡ bit_at blanks k)
     → ((k : ℕ) → k < n → bit_at solids k ≡ bit_at (bit_not w64 blanks) k) → ((k : ℕ) → n ≤ k → bit_at solids k ≡ 0)
     → PartWords (take n xs) ends solids
-parts_of_front xs n blanks ends solids room near fits marks end kept flips over =
+parts_of_front count xs n blanks ends solids few room near fits marks end kept flips over =
     let long : length (take n xs) ≡ n = omega (arith, length-take n xs, room, near) in
     record {
-      short = omega (arith, long, near);
+      short = omega (arith, long, near, few);
       blanks = λ k inside low. kept k (omega (arith, inside, long)) ∙ front k (omega (arith, inside, long));
       end = ap (bit_at ends) long ∙ end;
       others = λ k inside low. flips k (omega (arith, inside, long)) ∙ bit_at_not w64 blanks k fits low

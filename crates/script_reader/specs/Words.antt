@@ -13,9 +13,14 @@ lines_of (b ∷ bytes) = if b == 10 then [] ∷ lines_of bytes else onto_first b
 abbrev pub is_blank : ℕ → Bool
 is_blank b = b == 32 || (b == 9 || b == 13)
 
--- bit k of a mask tells whether byte k passes, for the first 64 bytes
+-- bit k of a mask tells whether byte k passes, for the first so many bytes
+abbrev pub MarksOf : ℕ → (ℕ → Bool) → List ℕ → ℕ → Type 0
+MarksOf count p bytes mask =
+    (k : ℕ) → k < length bytes → k < count → bit_at mask k ≡ (if p (slice_index bytes k) then 1 else 0)
+
+-- for the first 64 bytes
 abbrev pub Marks : (ℕ → Bool) → List ℕ → ℕ → Type 0
-Marks p bytes mask = (k : ℕ) → k < length bytes → k < 64 → bit_at mask k ≡ (if p (slice_index bytes k) then 1 else 0)
+Marks p bytes mask = MarksOf 64 p bytes mask
 
 -- Two masks part the words of a line: one tells which bytes are blanks, or the line's end, and one which aren't blanks.
 pub record PartWords (line : List ℕ) (ends solids : ℕ) : Type 0 where

@@ -3,7 +3,7 @@
 ghost use Rattle.std.specs.Prelude.{◌≡◌, ℕ, Some, None, false, ◌<◌, ◌≤◌, ◌+◌, ◌-◌, ◌==◌, not, drop, take, slice_index, position, [], ◌∷◌, IfOk, OnOk, IfSome, MatchOption, length};
 ghost use Rattle.std.specs.Int.{bit_at};
 ghost use Rattle.std.specs.List.{position_or_len};
-ghost use Rattle.script_reader.specs.Words.{lines_of, Marks, PartWords, is_blank as is_blank_of, rest_length, words_of, pieces as pieces_of, texts};
+ghost use Rattle.script_reader.specs.Words.{lines_of, Marks, PartWords, MarksOf, is_blank as is_blank_of, rest_length, words_of, pieces as pieces_of, texts};
 
 use crate::parts::cut;
 use memchr::memchr;
@@ -33,8 +33,33 @@ pub fn next_line(bytes: &[u8]) -> Option<(&[u8], &[u8])>
     }
 }
 
-/// How many bytes are looked at together.
+/// How many bytes are looked at together, where a line isn't among the shortest.
 const LANES: usize = 64;
+
+/// How many bytes are looked at first. Most lines end among them.
+const FEW: usize = 32;
+
+/// Which of the first 32 bytes are line feeds.
+fn few_feeds_in(text: &[u8]) -> u64
+    requires { 32 ≤ length text.now }
+    ensures { MarksOf 32 (λ b. b == 10) text.now result }
+{
+    u8x32::from_slice(text)
+        .simd_eq(u8x32::splat(b'\n'))
+        .to_bitmask()
+}
+
+/// Which of the first 32 bytes are blanks.
+fn few_blanks_in(text: &[u8]) -> u64
+    requires { 32 ≤ length text.now }
+    ensures { MarksOf 32 is_blank_of text.now result }
+{
+    let lanes = u8x32::from_slice(text);
+    let blanks = lanes.simd_eq(u8x32::splat(b' '))
+        | lanes.simd_eq(u8x32::splat(b'\t'))
+        | lanes.simd_eq(u8x32::splat(b'\r'));
+    blanks.to_bitmask()
+}
 
 /// Which of the first 64 bytes are line feeds.
 fn feeds_in(text: &[u8]) -> u64
@@ -66,6 +91,16 @@ fn next_set(mask: u64, from: usize) -> usize
     ensures set { result < 64 → bit_at mask result ≡ 1 }
 {
     from + (mask >> from).trailing_zeros() as usize
+}
+
+/// Where the first line feed is, if it is among the first 32 bytes.
+fn nearest_line_end(text: &[u8]) -> Option<usize>
+    requires { 32 ≤ length text.now }
+    ensures value { IfSome result (λ at. position (λ b. b == 10) text.now ≡ Some at) }
+    ensures near { IfSome result (λ at. at < 32) }
+{
+    let at = next_set(few_feeds_in(text), 0);
+    if at < FEW { Some(at) } else { None }
 }
 
 /// Where the first line feed is, if it is near.
@@ -133,7 +168,21 @@ fn stops_in(text: &[u8], len: usize) -> Stops
     }
 }
 
+/// The masks of the first line, of this length, which is below 32.
+fn few_stops_in(text: &[u8], len: usize) -> Stops
+    requires room { 32 ≤ length text.now }
+    requires short { len < 32 }
+    ensures { PartWords (take len text.now) result.ends result.solids }
+{
+    let blanks = few_blanks_in(text);
+    Stops {
+        ends: with_bit(blanks, len),
+        solids: bits_below(!blanks, len),
+    }
+}
+
 /// The next line as `next_line` gives it, and where its words may begin and end, where it is a short one.
+#[inline(always)]
 pub(crate) fn marked_line(text: &[u8]) -> Option<(&[u8], &[u8], Option<Stops>)>
     ensures lines { MatchOption result (lines_of text.now ≡ [])
         (λ x. lines_of text.now ≡ x.0.now ∷ lines_of x.1.now) }
@@ -141,6 +190,9 @@ pub(crate) fn marked_line(text: &[u8]) -> Option<(&[u8], &[u8], Option<Stops>)>
     ensures stops { IfSome result (λ x. IfSome x.2 (λ s. PartWords x.0.now s.ends s.solids)) }
 {
     if text.len() >= LANES {
+        if let Some(at) = nearest_line_end(text) {
+            return Some((&text[..at], &text[at + 1..], Some(few_stops_in(text, at))));
+        }
         if let Some(at) = near_line_end(text) {
             return Some((&text[..at], &text[at + 1..], Some(stops_in(text, at))));
         }
@@ -301,9 +353,10 @@ fn put_marked_words<'a>(
     ensures { OnOk result (texts words.new.items ≡ words_of line.now) }
 {
     words.clear();
+    words.reserve(LANES)?;
     let mut at = 0;
     while let Some((start, end)) = marked_word(line, stops, at) {
-        words.push(&line[start..end])?;
+        words.push_reserved(&line[start..end]);
         at = end;
     }
     Ok(())
