@@ -5,6 +5,7 @@ pub mod Mentions
 pub mod Each
 pub mod Lanes
 pub mod Marked
+pub mod Edges
 pub mod Parting
 pub mod OneDigit
 pub mod Quotes

@@ -176,7 +176,8 @@ parts_of_front count xs n blanks ends solids few room near fits marks end kept f
 
 -- ---- the lowest set bit from a place on
 
-shifted_bit : (mask from k : ℕ) → from ≤ k → bit_at mask k ≡ bit_at (mask / 2 ^ from) (k - from)
+-- a bit from a place on, by the mask shifted there
+pub shifted_bit : (mask from k : ℕ) → from ≤ k → bit_at mask k ≡ bit_at (mask / 2 ^ from) (k - from)
 shifted_bit mask from k low =
     let back : from + (k - from) ≡ k = omega (arith, low) in
     sym (ap (λ x. x % 2) (shr-shr mask from (k - from)) ∙ ap (bit_at mask) back)

@@ -1,5 +1,5 @@
 -- Lines and words.
-use Rattle.std.specs.Prelude.{ℕ, ◌≡◌, ◌+◌, ◌<◌, ◌≤◌, ◌==◌, not, length, slice_index, drop, ◌||◌, Bool, List, [], ◌∷◌, if◌then◌else◌, map}
+use Rattle.std.specs.Prelude.{ℕ, ◌≡◌, ◌+◌, ◌-◌, ◌%◌, ◌<◌, ◌≤◌, ◌==◌, not, length, slice_index, drop, ◌||◌, Bool, List, [], ◌∷◌, if◌then◌else◌, map}
 use Rattle.std.specs.Int.{bit_at}
 use Rattle.std.specs.List.{onto_first, slice_split, position_or_len}
 use denote.Ref.{Bor}
@@ -29,6 +29,18 @@ pub record PartWords (line : List ℕ) (ends solids : ℕ) : Type 0 where
   pub end : bit_at ends (length line) ≡ 1
   pub others : Marks (λ b. not (is_blank b)) line solids
   pub over : (k : ℕ) → length line ≤ k → bit_at solids k ≡ 0
+
+-- A mask of edges tells where words begin and end from a place on, by the mask of the bytes that aren't blanks: where a
+-- byte is blank and the one before it isn't, or the other way round. Before that place there are none.
+pub record EdgesFrom (solids edges start : ℕ) : Type 0 where
+  pub under : (k : ℕ) → k < start → bit_at edges k ≡ 0
+  pub here : bit_at edges start ≡ bit_at solids start
+  pub behind : (k : ℕ) → start < k → k < 64 → bit_at edges k ≡ (bit_at solids k + bit_at solids (k - 1)) % 2
+
+-- the edges behind a word's first byte
+pub record EdgesBehind (solids edges start : ℕ) : Type 0 where
+  pub upto : (k : ℕ) → k ≤ start → bit_at edges k ≡ 0
+  pub behind : (k : ℕ) → start < k → k < 64 → bit_at edges k ≡ (bit_at solids k + bit_at solids (k - 1)) % 2
 
 -- where a byte stands: between words, in a word, or in a word and behind its quote
 pub data Stretch : Type 0 where

@@ -1,9 +1,9 @@
 //! Lines and words.
 
-ghost use Rattle.std.specs.Prelude.{◌≡◌, ℕ, Some, None, false, ◌<◌, ◌≤◌, ◌+◌, ◌-◌, ◌==◌, not, drop, take, slice_index, position, [], ◌∷◌, IfOk, OnOk, IfSome, MatchOption, length};
+ghost use Rattle.std.specs.Prelude.{◌≡◌, ℕ, Some, None, false, ◌<◌, ◌≤◌, ◌+◌, ◌-◌, ◌%◌, ◌≢◌, ◌==◌, not, drop, take, slice_index, position, [], ◌∷◌, IfOk, OnOk, IfSome, MatchOption, length};
 ghost use Rattle.std.specs.Int.{bit_at};
 ghost use Rattle.std.specs.List.{position_or_len};
-ghost use Rattle.script_reader.specs.Words.{lines_of, Marks, PartWords, MarksOf, is_blank as is_blank_of, rest_length, words_of, pieces as pieces_of, texts};
+ghost use Rattle.script_reader.specs.Words.{lines_of, Marks, PartWords, MarksOf, EdgesFrom, EdgesBehind, is_blank as is_blank_of, rest_length, words_of, pieces as pieces_of, texts};
 
 use crate::parts::cut;
 use memchr::memchr;
@@ -291,19 +291,6 @@ pub fn next_word(bytes: &[u8]) -> Option<(&[u8], &[u8])>
     Some((&bytes[start..end], &bytes[end..]))
 }
 
-/// Where the first byte from here on is that isn't blank; none where there are only blanks.
-fn marked_solid(line: &[u8], stops: Stops, start: usize) -> Option<usize>
-    requires stops { PartWords line.now stops.ends stops.solids }
-    requires inside { start ≤ length line.now }
-    ensures none { result ≡ None → start + position_or_len (λ b. not (is_blank_of b)) (drop start line.now)
-        ≡ length line.now }
-    ensures some { IfSome result (λ at. at ≡ start + position_or_len (λ b. not (is_blank_of b)) (drop start line.now)) }
-    ensures within { IfSome result (λ at. at < length line.now) }
-{
-    let at = next_set(stops.solids, start);
-    if at < LANES { Some(at) } else { None }
-}
-
 /// Where the first blank from here on is, or the length.
 fn marked_blank(line: &[u8], stops: Stops, start: usize) -> usize
     requires stops { PartWords line.now stops.ends stops.solids }
@@ -314,32 +301,121 @@ fn marked_blank(line: &[u8], stops: Stops, start: usize) -> usize
     next_set(stops.ends, start)
 }
 
-/// Where the word ends that begins here.
-fn marked_end(line: &[u8], stops: Stops, start: usize) -> usize
-    requires stops { PartWords line.now stops.ends stops.solids }
-    requires inside { start < length line.now }
-    ensures value { result ≡ start + 1 + rest_length (slice_index line.now start) (drop (start + 1) line.now) }
-    ensures within { result ≤ length line.now }
+/// The mask's bits from this one on.
+fn bits_from(mask: u64, start: usize) -> u64
+    requires { start < 64 }
+    ensures under { (k : ℕ) → k < start → bit_at result k ≡ 0 }
+    ensures kept { (k : ℕ) → start ≤ k → k < 64 → bit_at result k ≡ bit_at mask k }
 {
-    let behind = start + 1;
-    if line[start] == b'"' {
-        marked_blank(line, stops, behind + quote_len(&line[behind..]))
+    (mask >> start) << start
+}
+
+/// The mask without this bit.
+fn without_bit(mask: u64, at: usize) -> u64
+    requires { at < 64 }
+    ensures clear { bit_at result at ≡ 0 }
+    ensures kept { (k : ℕ) → k < 64 → k ≢ at → bit_at result k ≡ bit_at mask k }
+{
+    mask & !(1 << at)
+}
+
+/// Which bits differ from the one below them. Below the first there is none that is set.
+fn changes_in(mask: u64) -> u64
+    ensures first { bit_at result 0 ≡ bit_at mask 0 }
+    ensures others { (k : ℕ) → 0 < k → k < 64 → bit_at result k ≡ (bit_at mask k + bit_at mask (k - 1)) % 2 }
+{
+    mask ^ (mask << 1)
+}
+
+/// Where words begin and end from here on, by the bytes that aren't blanks.
+fn edges_from(solids: u64, start: usize) -> u64
+    requires { start < 64 }
+    ensures { EdgesFrom solids result start }
+{
+    changes_in(bits_from(solids, start))
+}
+
+/// Where the next word begins, and the edges behind that; none where there are only blanks.
+fn marked_start(line: &[u8], stops: Stops, edges: u64, at: usize) -> Option<(usize, u64)>
+    requires stops { PartWords line.now stops.ends stops.solids }
+    requires inside { at ≤ length line.now }
+    requires edges { EdgesFrom stops.solids edges at }
+    ensures none { result ≡ None → at + position_or_len (λ b. not (is_blank_of b)) (drop at line.now)
+        ≡ length line.now }
+    ensures some { IfSome result (λ x. x.0 ≡ at + position_or_len (λ b. not (is_blank_of b)) (drop at line.now)) }
+    ensures within { IfSome result (λ x. x.0 < length line.now) }
+    ensures set { IfSome result (λ x. bit_at stops.solids x.0 ≡ 1) }
+    ensures edges { IfSome result (λ x. EdgesBehind stops.solids x.1 x.0) }
+{
+    let start = next_set(edges, 0);
+    if start < LANES {
+        Some((start, without_bit(edges, start)))
     } else {
-        marked_blank(line, stops, behind)
+        None
     }
 }
 
-/// What `word_from` gives.
-fn marked_word(line: &[u8], stops: Stops, from: usize) -> Option<(usize, usize)>
+/// Where the word ends that begins here without a quote, and the edges from there on.
+fn plain_end(line: &[u8], stops: Stops, edges: u64, start: usize) -> (usize, u64)
+    requires stops { PartWords line.now stops.ends stops.solids }
+    requires inside { start < length line.now }
+    requires set { bit_at stops.solids start ≡ 1 }
+    requires edges { EdgesBehind stops.solids edges start }
+    ensures value { result.0 ≡ start + 1 + position_or_len is_blank_of (drop (start + 1) line.now) }
+    ensures within { result.0 ≤ length line.now }
+    ensures edges { EdgesFrom stops.solids result.1 result.0 }
+{
+    let end = next_set(edges, 0);
+    (end, without_bit(edges, end))
+}
+
+/// Where the word ends that begins here with a quote, and the edges from there on.
+fn quoted_end(line: &[u8], stops: Stops, start: usize) -> (usize, u64)
+    requires stops { PartWords line.now stops.ends stops.solids }
+    requires inside { start < length line.now }
+    requires quoted { slice_index line.now start ≡ 34 }
+    ensures value { result.0 ≡ start + 1 + rest_length (slice_index line.now start) (drop (start + 1) line.now) }
+    ensures within { result.0 ≤ length line.now }
+    ensures edges { EdgesFrom stops.solids result.1 result.0 }
+{
+    let behind = start + 1;
+    let end = marked_blank(line, stops, behind + quote_len(&line[behind..]));
+    (end, edges_from(stops.solids, end))
+}
+
+/// Where the word ends that begins here, and the edges from there on.
+fn marked_end(line: &[u8], stops: Stops, edges: u64, start: usize) -> (usize, u64)
+    requires stops { PartWords line.now stops.ends stops.solids }
+    requires inside { start < length line.now }
+    requires set { bit_at stops.solids start ≡ 1 }
+    requires edges { EdgesBehind stops.solids edges start }
+    ensures value { result.0 ≡ start + 1 + rest_length (slice_index line.now start) (drop (start + 1) line.now) }
+    ensures within { result.0 ≤ length line.now }
+    ensures edges { EdgesFrom stops.solids result.1 result.0 }
+{
+    if line[start] == b'"' {
+        quoted_end(line, stops, start)
+    } else {
+        plain_end(line, stops, edges, start)
+    }
+}
+
+/// What `word_from` gives, and the edges behind the word.
+fn marked_word(line: &[u8], stops: Stops, edges: u64, from: usize) -> Option<(usize, usize, u64)>
     requires stops { PartWords line.now stops.ends stops.solids }
     requires inside { from ≤ length line.now }
+    requires edges { EdgesFrom stops.solids edges from }
     ensures words { MatchOption result (words_of (drop from line.now) ≡ [])
         (λ x. words_of (drop from line.now) ≡ take (x.1 - x.0) (drop x.0 line.now) ∷ words_of (drop x.1 line.now)) }
     ensures order { IfSome result (λ x. (from ≤ x.0) × (x.0 < x.1) × (x.1 ≤ length line.now)) }
+    ensures edges { IfSome result (λ x. EdgesFrom stops.solids x.2 x.1) }
 {
-    match marked_solid(line, stops, from) {
+    match marked_start(line, stops, edges, from) {
         None => None,
-        Some(start) => Some((start, marked_end(line, stops, start))),
+        Some((start, inner)) => {
+            let (end, behind) = marked_end(line, stops, inner, start);
+            Some((start, end, behind))
+        }
     }
 }
 
@@ -355,9 +431,11 @@ fn put_marked_words<'a>(
     words.clear();
     words.reserve(LANES)?;
     let mut at = 0;
-    while let Some((start, end)) = marked_word(line, stops, at) {
+    let mut edges = edges_from(stops.solids, 0);
+    while let Some((start, end, behind)) = marked_word(line, stops, edges, at) {
         words.push_reserved(&line[start..end]);
         at = end;
+        edges = behind;
     }
     Ok(())
 }

@@ -7,5 +7,5 @@ returns-in-None-clause-words c = none_left c.args.line.now c.args.from (c.in-Non
 
 pub returns-in-Some-clause-words : goal.returns-in-Some-clause-words
 returns-in-Some-clause-words c =
-    next_word_at c.args.line.now c.args.from c.in-Some.start c.marked_end.result c.in-Some.ensures.some
-    c.in-Some.ensures.within c.marked_end.ensures.value
+    next_word_at c.args.line.now c.args.from c.in-Some.start c.marked_end-end.result.0 c.in-Some.ensures.some
+    c.in-Some.ensures.within c.marked_end-end.ensures.value

@@ -1,5 +1,5 @@
 use Rattle.std.proofs.Common.{◌≡◌, ◌++◌, ◌≤◌, ◌-◌, drop, length, vec_len, vec_capacity}
-use Rattle.script_reader.specs.Words.{words_of, texts}
+use Rattle.script_reader.specs.Words.{words_of, texts, EdgesFrom}
 use Rattle.script_reader.proofs.words.put_marked_words.Given as goal
 
 -- the words so far, and those that are left; no word is empty, so there are no more than bytes
@@ -10,6 +10,7 @@ invariant-loop-start l =
       within : l.at ≤ length l.fn.line;
       few : vec_len l.words ≤ l.at;
       room : 64 ≤ vec_capacity l.words;
+      edges : EdgesFrom l.fn.stops.solids l.edges l.at;
     }
 
 abbrev pub decreases-loop-start : goal.decreases-loop-start
