@@ -218,5 +218,6 @@ edges_after solids edges less start r from set clear near edge gone kept =
     record {
       under = λ k low. kept k (omega (arith, low, near)) (λ e. omega (arith, e, low)) ∙ clear k (omega arith) low;
       here = gone ∙ sym (end_clear solids edges start r from set clear near edge);
-      behind = λ k later few. kept k few (λ e. omega (arith, e, later)) ∙ from.behind k (omega (arith, after, later)) few;
+      behind = λ k later few. kept k few (λ e. omega (arith, e, later))
+          ∙ from.behind k (omega (arith, after, later)) few;
     }
