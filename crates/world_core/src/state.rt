@@ -333,6 +333,7 @@ impl State {
     }
 
     /// The event at this place of those that may come next, from 0.
+    #[inline(always)]
     pub(crate) fn nth(&self, index: u32) -> Option<Event>
         requires { IsAlive self.now }
         ensures { result ≡ slice_get (enabled_events (world_of self.now)) index }
