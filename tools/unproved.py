@@ -2,13 +2,16 @@
 """Builds a program with nothing proved: for a first run of `./pico`, and to count and time what a change would cost.
 
 usage: tools/unproved.py OUT [CRATE] [PART=HINT ..]
+       tools/unproved.py --code FILE [CRATE]
+       tools/unproved.py --of FILE OUT [PART=HINT ..]
 
 `rt try` compiles the program with checks. Here the intermediate code that it would compile is kept, its checks are
 taken out, the sources' hints on inlining are put in, and it is optimized as `rt run` optimizes a proved program: OUT
 has the instructions of that one within some hundredths. CRATE is the program's, `pico_cmd` where none is named. Further
 hints are tried without a change of the sources: PART is a
 pattern of a function's name in the intermediate code, as `world_core::state::State::run$`, and HINT one of `always`,
-`never` and `cold`. It takes two minutes of a processor.
+`never` and `cold`. It takes two minutes of a processor. The other forms do the first half, which writes the intermediate
+code to FILE, and the second, so that several hints are tried of one FILE.
 """
 from __future__ import annotations
 
@@ -137,20 +140,12 @@ def without_checks(text: pathlib.Path, hints: dict, tried: list) -> str:
     return "".join(lines)
 
 
-def main() -> int:
-    crate, hinted = "pico_cmd", sys.argv[2:]
-    if hinted and "=" not in hinted[0]:
-        crate, hinted = hinted[0], hinted[1:]
-    if len(sys.argv) < 2 or not all(it.rpartition("=")[2] in WORDS for it in hinted):
-        print(__doc__.strip())
-        return 2
-    # so that what is written aside goes, too, where this run is told to stop
-    signal.signal(signal.SIGTERM, lambda *_: sys.exit(143))
-    tried = [(re.compile(it.rpartition("=")[0]), WORDS[it.rpartition("=")[2]]) for it in hinted]
-    real, out = kit(), pathlib.Path(sys.argv[1]).resolve()
+def code_of(crate: str, text: pathlib.Path) -> int:
+    """Writes the crate's intermediate code, with its checks."""
+    real = kit()
     with tempfile.TemporaryDirectory() as room:
         room = pathlib.Path(room)
-        kept, text, compiled = room / "module.bc", room / "module.ll", room / "module.o"
+        kept = room / "module.bc"
         kit_that_keeps(real, kept, room / "kit")
         tries = [room / "kit/bin/rt", "try", "--", "sim"]
         how = {"stdin": subprocess.DEVNULL, "stdout": subprocess.PIPE, "stderr": subprocess.STDOUT}
@@ -162,13 +157,49 @@ def main() -> int:
             killed = "rt try ended before the compiler began and said no reason, as where memory runs out"
             print(*said or [killed], sep="\n", file=sys.stderr)
             return 1
-        clang = [real / "toolchain/bin/clang", f"--target={TARGET}", "-x", "ir"]
-        subprocess.run([*clang, kept, "-S", "-emit-llvm", "-Xclang", "-disable-llvm-passes", "-o", text], check=True)
-        text.write_text(without_checks(text, all_hints(real), tried))
-        subprocess.run([*clang, text, "-c", *FLAGS, "-o", compiled], check=True)
+        plain = ["-S", "-emit-llvm", "-Xclang", "-disable-llvm-passes"]
+        subprocess.run([*clang(real), kept, *plain, "-o", text], check=True)
+    return 0
+
+
+def clang(real: pathlib.Path) -> list:
+    return [real / "toolchain/bin/clang", f"--target={TARGET}", "-x", "ir"]
+
+
+def build(text: pathlib.Path, out: pathlib.Path, hinted: list[str]) -> int:
+    """Builds the program of the intermediate code, with these hints besides those of the sources."""
+    real = kit()
+    tried = [(re.compile(it.rpartition("=")[0]), WORDS[it.rpartition("=")[2]]) for it in hinted]
+    with tempfile.TemporaryDirectory() as room:
+        room = pathlib.Path(room)
+        unchecked, compiled = room / "module.ll", room / "module.o"
+        unchecked.write_text(without_checks(text, all_hints(real), tried))
+        subprocess.run([*clang(real), unchecked, "-c", *FLAGS, "-o", compiled], check=True)
         libraries = [real / "c/libos_c.a", real / "c/liblibc_c.a", "-Wl,--gc-sections", "-lm"]
         subprocess.run(["gcc", "-pie", "-o", out, compiled, *libraries], check=True)
     return 0
+
+
+def are_hints(words: list[str]) -> bool:
+    return all(it.rpartition("=")[2] in WORDS for it in words)
+
+
+def main() -> int:
+    # so that what is written aside goes, too, where this run is told to stop
+    signal.signal(signal.SIGTERM, lambda *_: sys.exit(143))
+    match sys.argv[1:]:
+        case ["--code", text, *crate] if len(crate) < 2:
+            return code_of(*crate or ["pico_cmd"], pathlib.Path(text).resolve())
+        case ["--of", text, out, *hints] if are_hints(hints):
+            return build(pathlib.Path(text).resolve(), pathlib.Path(out).resolve(), hints)
+        case [out, *words] if not out.startswith("-"):
+            crate, hints = ("pico_cmd", words) if not words or "=" in words[0] else (words[0], words[1:])
+            if are_hints(hints):
+                with tempfile.TemporaryDirectory() as room:
+                    text = pathlib.Path(room) / "module.ll"
+                    return code_of(crate, text) or build(text, pathlib.Path(out).resolve(), hints)
+    print(__doc__.strip())
+    return 2
 
 
 if __name__ == "__main__":
